@@ -1,0 +1,5 @@
+pub mod Coefficients
+pub mod Polynomials
+pub mod Factors
+pub mod Values
+pub mod Fields

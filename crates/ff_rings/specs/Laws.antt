@@ -1,0 +1,21 @@
+-- The laws of a commutative ring and of a field on a type whose every member is an element, so that no law has a premise
+-- on validity. The lemmas of the theory stand over these; a carrier's elements form such a type.
+--     RingLaws o, FieldLaws o     the operations keep the laws on all of A
+use Rattle.std.specs.Prelude.{◌≡◌, ◌≢◌, ◌↔◌, IsTrue}
+use Rattle.ff_model.specs.Coefficients.{Ops}
+
+pub record RingLaws {A : Type 0} (o : Ops A) : Type 0 where
+  pub add_comm : (x y : A) → o.add x y ≡ o.add y x
+  pub add_assoc : (x y z : A) → o.add (o.add x y) z ≡ o.add x (o.add y z)
+  pub zero_add : (x : A) → o.add o.zero x ≡ x
+  pub add_neg : (x : A) → o.add x (o.neg x) ≡ o.zero
+  pub mul_comm : (x y : A) → o.mul x y ≡ o.mul y x
+  pub mul_assoc : (x y z : A) → o.mul (o.mul x y) z ≡ o.mul x (o.mul y z)
+  pub one_mul : (x : A) → o.mul o.one x ≡ x
+  pub mul_add : (x y z : A) → o.mul x (o.add y z) ≡ o.add (o.mul x y) (o.mul x z)
+  pub zero_test : (x : A) → IsTrue (o.is_zero x) ↔ (x ≡ o.zero)
+
+pub record FieldLaws {A : Type 0} (o : Ops A) : Type 0 where
+  pub ring : RingLaws o
+  pub one_not_zero : o.one ≢ o.zero
+  pub inverse : (x : A) → x ≢ o.zero → (y : A) × (o.mul x y ≡ o.one)
