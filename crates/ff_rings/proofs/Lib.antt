@@ -1,2 +1,14 @@
 pub mod Rings
 pub mod Lists
+pub mod Trims
+pub mod Polynomials
+pub mod Division
+pub mod Monomials
+pub mod Residues
+pub mod ResidueFields
+pub mod Homomorphisms
+pub mod Elements
+pub mod Validity
+pub mod Carriers
+pub mod Divisors
+pub mod LongDivision

@@ -1,14 +1,26 @@
 -- What follows from the laws of a commutative ring, on its elements.
-use Rattle.std.proofs.Common.{◌≡◌, ◌≢◌, ◌⊎◌, ◌↔◌, Bool, true, false, IsTrue, refl, ap, ap₂, sym, ◌∙◌, inl, inr, ⊎_elim}
+use Rattle.std.proofs.Common.{◌≡◌, ◌≢◌, ◌⊎◌, ◌↔◌, true, false, IsTrue, refl, ap, ap₂, sym, ◌∙◌, inl, inr, ⊎_elim}
 use Rattle.std.proofs.lemmas.Bool.{false≢true, false_from_ne_true, cases_Bool}
 use Rattle.ff_model.specs.Coefficients.{Ops}
-use Rattle.ff_rings.specs.Laws.{RingLaws, FieldLaws}
+use Rattle.ff_rings.specs.Laws.{RingLaws}
+
+-- what needs no law but that the test for zero tells zero
+module _ {A : Type 0} (o : Ops A) (Z : (x : A) → IsTrue (o.is_zero x) ↔ (x ≡ o.zero)) where
+  pub is_zero_of_zero : o.is_zero o.zero ≡ true
+  is_zero_of_zero = (Z o.zero).1 refl
+
+  pub is_zero_of_not_zero : (x : A) → x ≢ o.zero → o.is_zero x ≡ false
+  is_zero_of_not_zero x h = false_from_ne_true (o.is_zero x) (λ e. h ((Z x).0 e))
+
+  -- an element is zero or not
+  pub zero_or_not : (x : A) → (x ≡ o.zero) ⊎ (x ≢ o.zero)
+  zero_or_not x = ⊎_elim (λ e. inl ((Z x).0 e)) (λ e. inr (λ z. false≢true (sym e ∙ (Z x).1 z))) (cases_Bool (o.is_zero x))
 
 module _ {A : Type 0} {o : Ops A} (R : RingLaws o) where
-  open o use {zero as O, one as I, add as ◌⊕◌, mul as ◌⊗◌, neg, is_zero}
+  open o use {zero as O, one as I, add as ◌⊕◌, mul as ◌⊗◌, neg}
+
   infixl 60 ◌⊕◌
   infixl 70 ◌⊗◌
-
   pub add_comm : (x y : A) → x ⊕ y ≡ y ⊕ x
   add_comm x y = R.add_comm x y
 
@@ -53,7 +65,9 @@ module _ {A : Type 0} {o : Ops A} (R : RingLaws o) where
 
   -- Sums and products in one order, so that `simp` closes what differs by it
   pub ruleset sorted_sums = (add_assoc, add_comm, add_left_comm, add_zero, zero_add)
+
   pub ruleset sorted = (sorted_sums, mul_assoc, mul_comm, mul_left_comm, mul_one, one_mul)
+
   pub ruleset expanded = (mul_add, add_mul, sorted)
 
   pub add_swap : (a b c d : A) → (a ⊕ b) ⊕ (c ⊕ d) ≡ (a ⊕ c) ⊕ (b ⊕ d)
@@ -62,8 +76,8 @@ module _ {A : Type 0} {o : Ops A} (R : RingLaws o) where
   pub add_cancel : (x y z : A) → x ⊕ y ≡ x ⊕ z → y ≡ z
   add_cancel x y z e = sym (back y) ∙ ap (λ w. neg x ⊕ w) e ∙ back z
     where
-    back : (w : A) → neg x ⊕ (x ⊕ w) ≡ w
-    back w = sym (R.add_assoc (neg x) x w) ∙ ap (λ v. v ⊕ w) (neg_add x) ∙ R.zero_add w
+      back : (w : A) → neg x ⊕ (x ⊕ w) ≡ w
+      back w = sym (R.add_assoc (neg x) x w) ∙ ap (λ v. v ⊕ w) (neg_add x) ∙ R.zero_add w
 
   pub add_cancel_right : (x y z : A) → y ⊕ x ≡ z ⊕ x → y ≡ z
   add_cancel_right x y z e = add_cancel x y z (R.add_comm x y ∙ e ∙ R.add_comm z x)
@@ -83,7 +97,7 @@ module _ {A : Type 0} {o : Ops A} (R : RingLaws o) where
 
   pub mul_zero : (x : A) → x ⊗ O ≡ O
   mul_zero x = add_cancel (x ⊗ O) (x ⊗ O) O
-    (sym (R.mul_add x O O) ∙ ap (λ w. x ⊗ w) (R.zero_add O) ∙ sym (add_zero (x ⊗ O)))
+      (sym (R.mul_add x O O) ∙ ap (λ w. x ⊗ w) (R.zero_add O) ∙ sym (add_zero (x ⊗ O)))
 
   pub zero_mul : (x : A) → O ⊗ x ≡ O
   zero_mul x = R.mul_comm O x ∙ mul_zero x
@@ -110,18 +124,12 @@ module _ {A : Type 0} {o : Ops A} (R : RingLaws o) where
   pub same_from_difference : (x y : A) → x ⊕ neg y ≡ O → x ≡ y
   same_from_difference x y e = sum_to_difference x (neg y) O e ∙ R.zero_add (neg (neg y)) ∙ neg_neg y
 
-  pub is_zero_of_zero : is_zero O ≡ true
-  is_zero_of_zero = (R.zero_test O).1 refl
+  pub add_difference : (x y : A) → x ⊕ (y ⊕ neg x) ≡ y
+  add_difference x y = add_left_comm x y (neg x) ∙ ap (λ w. y ⊕ w) (R.add_neg x) ∙ add_zero y
 
-  pub zero_from_is_zero : (x : A) → is_zero x ≡ true → x ≡ O
-  zero_from_is_zero x e = (R.zero_test x).0 e
-
-  pub not_zero_from_is_zero : (x : A) → is_zero x ≡ false → x ≢ O
-  not_zero_from_is_zero x e z = false≢true (sym e ∙ (R.zero_test x).1 z)
-
-  pub is_zero_of_not_zero : (x : A) → x ≢ O → is_zero x ≡ false
-  is_zero_of_not_zero x h = false_from_ne_true (is_zero x) (λ e. h (zero_from_is_zero x e))
-
-  -- an element is zero or not
-  pub zero_or_not : (x : A) → (x ≡ O) ⊎ (x ≢ O)
-  zero_or_not x = ⊎_elim (λ e. inl (zero_from_is_zero x e)) (λ e. inr (not_zero_from_is_zero x e)) (cases_Bool (is_zero x))
+  -- q * d + r = q' * d + r' makes (q - q') * d = r' - r
+  pub difference_of_multiples : (q q' d r r' : A) → q ⊗ d ⊕ r ≡ q' ⊗ d ⊕ r' → (q ⊕ neg q') ⊗ d ≡ r' ⊕ neg r
+  difference_of_multiples q q' d r r' e =
+      let turned : r' ⊕ neg r ⊕ q' ⊗ d ≡ q' ⊗ d ⊕ r' ⊕ neg r = simp sorted_sums in
+      add_mul q (neg q') d ∙ ap (λ w. q ⊗ d ⊕ w) (neg_mul q' d)
+      ∙ sym (sum_to_difference (r' ⊕ neg r) (q' ⊗ d) (q ⊗ d) (turned ∙ sym (sum_to_difference (q ⊗ d) r (q' ⊗ d ⊕ r') e)))

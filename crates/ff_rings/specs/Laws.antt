@@ -1,8 +1,12 @@
 -- The laws of a commutative ring and of a field on a type whose every member is an element, so that no law has a premise
 -- on validity. The lemmas of the theory stand over these; a carrier's elements form such a type.
 --     RingLaws o, FieldLaws o     the operations keep the laws on all of A
-use Rattle.std.specs.Prelude.{◌≡◌, ◌≢◌, ◌↔◌, IsTrue}
-use Rattle.ff_model.specs.Coefficients.{Ops}
+--     IsPropositional c           two elements are equal in one way, and valid in one way
+--     polynomials c               the polynomials over c, with their sums and products
+use Rattle.std.specs.Prelude.{◌≡◌, ◌≢◌, ◌↔◌, IsTrue, List, [], ◌∷◌, length, ◌==◌}
+use Rattle.ff_model.specs.Coefficients.{Ops, Carrier}
+use Rattle.ff_model.specs.Polynomials.{trim, poly_sum, poly_negative, poly_product}
+use Rattle.ff_model.specs.Factors.{IsPolynomial}
 
 pub record RingLaws {A : Type 0} (o : Ops A) : Type 0 where
   pub add_comm : (x y : A) → o.add x y ≡ o.add y x
@@ -19,3 +23,20 @@ pub record FieldLaws {A : Type 0} (o : Ops A) : Type 0 where
   pub ring : RingLaws o
   pub one_not_zero : o.one ≢ o.zero
   pub inverse : (x : A) → x ≢ o.zero → (y : A) × (o.mul x y ≡ o.one)
+
+pub record IsPropositional {A : Type 0} (c : Carrier A) : Type 0 where
+  pub set : IsSet A
+  pub valid : (x : A) → IsProp (c.Valid x)
+
+abbrev pub polynomials : {A : Type 0} → Carrier A → Carrier (List A)
+polynomials c = record {
+  ops = record {
+    zero = [];
+    one = trim c.ops (c.ops.one ∷ []);
+    add = poly_sum c.ops;
+    mul = poly_product c.ops;
+    neg = poly_negative c.ops;
+    is_zero = λ f. length f == 0;
+  };
+  Valid = IsPolynomial c;
+}

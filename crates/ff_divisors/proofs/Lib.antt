@@ -1,0 +1,12 @@
+pub mod Euclidean
+pub mod Gcd
+pub mod Irreducible
+pub mod Factorization
+pub mod Order
+pub mod Least
+pub mod Decisions
+pub mod Fields
+pub mod Polynomials
+pub mod LeastFactors
+pub mod Finite
+pub mod Existence
