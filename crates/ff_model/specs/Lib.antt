@@ -3,3 +3,4 @@ pub mod Polynomials
 pub mod Factors
 pub mod Values
 pub mod Fields
+pub mod Matrices
