@@ -1,0 +1,14 @@
+-- The front of the bytes up to `written` was appended, and the count of faults didn't fall.
+use Rattle.std.proofs.Common.{◌≤◌, ◌-◌, length, take}
+use Rattle.std.specs.Io.KnownBytes.{Appends}
+use Rattle.lat_io.proofs.sink.write_all_of.Given as goal
+
+abbrev pub invariant-loop-written : goal.invariant-loop-written
+invariant-loop-written g l = record {
+  within : l.written ≤ length l.bytes;
+  appended : Appends (g.K.Sink.held l.fn.sink) (g.K.Sink.held l.sink) (take l.written l.bytes);
+  never_falls : g.K.Sink.faults l.fn.sink ≤ g.K.Sink.faults l.sink;
+}
+
+abbrev pub decreases-loop-written : goal.decreases-loop-written
+decreases-loop-written g l = length l.bytes - l.written
