@@ -41,7 +41,7 @@ module _ {A : Type 0} {c : Carrier A} (P : IsPropositional c) (F : IsField c) wh
   pub divides_from : (f g : Polynomial c) → Divides c f.0 g.0 → Euclidean.Divides (polynomial_ops P F.ring) f g
   divides_from f g h = record { quotient = (h.0, h.1); identity = same (Q.mul (h.0, h.1) f) g h.2 }
 
-  combination_to : (a b g : Polynomial c) → Gcd.Combination Q a b g → IsCombination c a.0 b.0 g.0
+  pub combination_to : (a b g : Polynomial c) → Gcd.Combination Q a b g → IsCombination c a.0 b.0 g.0
   combination_to a b g k = record {
     first = k.first.0;
     second = k.second.0;
@@ -50,7 +50,7 @@ module _ {A : Type 0} {c : Carrier A} (P : IsPropositional c) (F : IsField c) wh
     identity = ap list_of k.identity;
   }
 
-  combination_from : (a b g : Polynomial c) → IsCombination c a.0 b.0 g.0 → Gcd.Combination Q a b g
+  pub combination_from : (a b g : Polynomial c) → IsCombination c a.0 b.0 g.0 → Gcd.Combination Q a b g
   combination_from a b g k = record {
     first = (k.first, k.first_polynomial);
     second = (k.second, k.second_polynomial);
@@ -95,7 +95,7 @@ module _ {A : Type 0} {c : Carrier A} (P : IsPropositional c) (F : IsField c) wh
   monic_or_zero_from : (g : Polynomial c) → Monic g ⊎ (g.0 ≡ []) → Monic g ⊎ (g ≡ Q.zero)
   monic_or_zero_from g m = ⊎_elim inl (λ e. inr (same g Q.zero e)) m
 
-  gcd_to : (a b g : Polynomial c) → Monic g ⊎ (g.0 ≡ []) → Gcd.Gcd Q a b g → IsGreatestCommonDivisor c a.0 b.0 g.0
+  pub gcd_to : (a b g : Polynomial c) → Monic g ⊎ (g.0 ≡ []) → Gcd.Gcd Q a b g → IsGreatestCommonDivisor c a.0 b.0 g.0
   gcd_to a b g m k = record {
     polynomial = g.1;
     monic_or_zero = m;

@@ -33,7 +33,7 @@ mod_ops p = record {
   add = λ a b. (a + b) % p;
   mul = λ a b. (a * b) % p;
   neg = λ a. (p - a) % p;
-  is_zero = λ a. a == 0
+  is_zero = λ a. a == 0;
 }
 
 pub record Carrier (A : Type 0) : Type 1 where

@@ -23,7 +23,6 @@ order_by cmp (x ∷ xs) [] = Greater
 order_by cmp (x ∷ xs) (y ∷ ys) = ordering_then (order_by cmp xs ys) (cmp x y)
 
 module _ {A : Type 0} (c : Carrier A) where
-
   abbrev pub IsPolynomial : List A → Type 0
   IsPolynomial f = All c.Valid f × (trim c.ops f ≡ f)
 

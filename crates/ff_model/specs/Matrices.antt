@@ -26,7 +26,6 @@ abbrev pub column_at : {A : Type 0} → Matrix A → ℕ → List A
 column_at m k = slice_index_or m.columns k []
 
 module _ {A : Type 0} (o : Ops A) where
-
   abbrev pub entry : Matrix A → ℕ → ℕ → A
   entry m r k = slice_index_or (column_at m k) r o.zero
 
@@ -51,7 +50,6 @@ module _ {A : Type 0} (o : Ops A) where
   identity_matrix n = record { rows = n; columns = map (unit_column n) (range_with_len 0 n) }
 
 module _ {A : Type 0} (c : Carrier A) where
-
   abbrev pub IsColumn : ℕ → List A → Type 0
   IsColumn n x = (length x ≡ n) × All c.Valid x
 
@@ -85,7 +83,7 @@ module _ {A : Type 0} (c : Carrier A) where
 
   abbrev pub IsIndependent : ℕ → List (List A) → Type 0
   IsIndependent n cs = (x : List A) → IsColumn (length cs) x → combination c.ops n cs x ≡ zero_column c.ops n
-    → x ≡ zero_column c.ops (length cs)
+      → x ≡ zero_column c.ops (length cs)
 
   abbrev pub IsInKernel : Matrix A → List A → Type 0
   IsInKernel m x = IsColumn (length m.columns) x × (matrix_apply c.ops m x ≡ zero_column c.ops m.rows)
@@ -94,6 +92,6 @@ module _ {A : Type 0} (c : Carrier A) where
   pub record IsKernelBasis (m : Matrix A) (basis : List (List A)) : Type 0 where
     pub members : All (IsInKernel m) basis
     pub spans : (x : List A) → IsInKernel m x
-      → (y : List A) × IsColumn (length basis) y × (combination c.ops (length m.columns) basis y ≡ x)
+        → (y : List A) × IsColumn (length basis) y × (combination c.ops (length m.columns) basis y ≡ x)
     pub one_way : (y z : List A) → IsColumn (length basis) y → IsColumn (length basis) z
-      → combination c.ops (length m.columns) basis y ≡ combination c.ops (length m.columns) basis z → y ≡ z
+        → combination c.ops (length m.columns) basis y ≡ combination c.ops (length m.columns) basis z → y ≡ z

@@ -11,7 +11,6 @@ use Rattle.std.specs.Prelude.{ℕ, zero, suc, ◌-◌, Bool, cond, List, [], ◌
 use Rattle.ff_model.specs.Coefficients.{Ops, times}
 
 module _ {A : Type 0} (o : Ops A) where
-
   abbrev pub sum : List A → List A → List A
   sum [] ys = ys
   sum (x ∷ xs) [] = x ∷ xs
@@ -78,7 +77,7 @@ module _ {A : Type 0} (o : Ops A) where
   abbrev pub convolution_to : ℕ → List A → List A → ℕ → A
   convolution_to zero f g k = o.mul (slice_index_or f 0 o.zero) (slice_index_or g k o.zero)
   convolution_to (suc n) f g k =
-    o.add (convolution_to n f g k) (o.mul (slice_index_or f (suc n) o.zero) (slice_index_or g (k - suc n) o.zero))
+      o.add (convolution_to n f g k) (o.mul (slice_index_or f (suc n) o.zero) (slice_index_or g (k - suc n) o.zero))
 
   abbrev pub convolution : List A → List A → ℕ → A
   convolution f g k = convolution_to k f g k

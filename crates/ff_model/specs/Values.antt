@@ -12,7 +12,6 @@ abbrev pub degree : {A : Type 0} → List A → ℕ
 degree f = length f - 1
 
 module _ {A : Type 0} (o : Ops A) where
-
   abbrev pub padded : ℕ → List A → List A
   padded n xs = xs ++ replicate (n - length xs) o.zero
 
@@ -32,11 +31,11 @@ module _ {A : Type 0} (o : Ops A) where
     add = sum o;
     mul = λ a b. reduced f (product o a b);
     neg = map o.neg;
-    is_zero = list_all o.is_zero
+    is_zero = list_all o.is_zero;
   }
 
 abbrev pub values : {A : Type 0} → Carrier A → List A → Carrier (List A)
 values c f = record {
   ops = value_ops c.ops f;
-  Valid = λ a. All c.Valid a × (length a ≡ degree f)
+  Valid = λ a. All c.Valid a × (length a ≡ degree f);
 }
