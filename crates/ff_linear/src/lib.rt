@@ -1,0 +1,2 @@
+//! The theory of matrices over a field: lemmas for the crates above.
+#![tactic(auto)]

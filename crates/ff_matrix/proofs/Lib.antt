@@ -1,0 +1,4 @@
+pub mod Steps
+pub mod Forms
+pub mod Spreads
+pub mod Readings

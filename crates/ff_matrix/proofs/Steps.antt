@@ -1,0 +1,93 @@
+-- Loops that change one place after another.
+use Rattle.std.proofs.Common.{◌≡◌, ◌≢◌, ℕ, ◌+◌, ◌*◌, ◌%◌, ◌<◌, ◌≤◌, List, [], ◌∷◌, ◌++◌, length, replicate, get_or, set, All, refl, ap, ap₂, sym, ◌∙◌, subst, ⊎_elim, arith}
+use Rattle.std.specs.List.{swap}
+use Rattle.std.proofs.lemmas.List.{get_or_past, get_or-replicate, length-replicate, length-set, get_or-set_same, get_or-set_other}
+use Rattle.std.proofs.lemmas.Bool.{cases_lt}
+use Rattle.std.proofs.lemmas.List.Elements.{All-from_get_or, All-set}
+use Rattle.std.proofs.lemmas.List.Edits.{length-swap}
+use native.Mathlib.Nat.{mul_comm}
+use Rattle.ff_model.specs.Coefficients.{mod_ops, residues}
+use Rattle.ff_model.specs.Polynomials.{sum, scale}
+use Rattle.ff_model.specs.Matrices.{IsColumn}
+use Rattle.ff_rings.proofs.Residues.{residues_ring}
+use Rattle.ff_rings.proofs.ResidueFields.{residues_propositional}
+use Rattle.ff_linear.proofs.Columns.{length_scaled}
+use Rattle.ff_linear.proofs.RowOperations.{swapped, swapped_first, swapped_below}
+use Rattle.ff_linear.proofs.Elimination.{IsPivotStep, eliminated_start, eliminated_with_pivot, eliminated_without_pivot, swap_at}
+use Rattle.ff_matrix.specs.declared.TheConstants.{MAX_WIDTH}
+use Rattle.ff_matrix.specs.Rows.{AreRows, IsCleared, Eliminates}
+
+-- the places of ys below i are done, the others are those of xs, and all are below p
+pub record AreDone (p : ℕ) (done : ℕ → ℕ) (xs ys : List ℕ) (i : ℕ) : Type 0 where
+  pub residues : All (λ x. x < p) ys
+  pub before : (k : ℕ) → k < i → get_or ys k 0 ≡ done k
+  pub after : (k : ℕ) → i ≤ k → get_or ys k 0 ≡ get_or xs k 0
+
+-- the rows below i are cleared in column m by the source, which is row r, and the others are those of rows
+pub record AreClearedBelow (p m r : ℕ) (source : List ℕ) (rows new : List (List ℕ)) (i : ℕ) : Type 0 where
+  pub residues : AreRows p new
+  pub source_is : source ≡ get_or rows r []
+  pub pivot_row : get_or new r [] ≡ get_or rows r []
+  pub before : (k : ℕ) → k < i → k ≢ r
+      → get_or new k [] ≡ sum (mod_ops p) (scale (mod_ops p) ((mod_ops p).neg (get_or (get_or rows k []) m 0)) (get_or rows r [])) (get_or rows k [])
+  pub after : (k : ℕ) → i ≤ k → get_or new k [] ≡ get_or rows k []
+
+-- the rows after a swap are rows
+pub swapped_rows : (p r s : ℕ) (rows : List (List ℕ)) → r < length rows → s < length rows → AreRows p rows → AreRows p (swap rows r s)
+swapped_rows p r s rows lr ls v = All-from_get_or (IsColumn (residues p) MAX_WIDTH) (swap rows r s) []
+    (λ i l. let li : i < length rows = omega (arith, length-swap rows r s) in
+    subst (IsColumn (residues p) MAX_WIDTH) (sym (swap_at rows r s i [] lr ls li)) (v (swapped r s i) [] (swapped_below (length rows) r s i lr ls li)))
+
+-- the rows after a multiple of one of them took its place are rows
+pub scaled_rows : (p u r : ℕ) (rows : List (List ℕ)) (row : List ℕ) → r < length rows → AreRows p rows
+    → row ≡ scale (mod_ops p) u (get_or rows r []) → All (λ x. x < p) row → AreRows p (set rows r row)
+scaled_rows p u r rows row lr v e w = All-set (IsColumn (residues p) MAX_WIDTH) rows r row
+    (ap length e ∙ length_scaled (mod_ops p) u (get_or rows r []) ∙ (v r [] lr).0, w) v
+
+-- a swap, a multiple and a clearing make a step of the elimination
+pivot_step : (p m r s u : ℕ) (rows new : List (List ℕ)) (row : List ℕ) → r < length rows → s < length rows
+    → row ≡ scale (mod_ops p) u (get_or (swap rows r s) r []) → length new ≡ length rows
+    → IsCleared (mod_ops p) m r (set (swap rows r s) r row) new → IsPivotStep (mod_ops p) m r s u rows new
+pivot_step p m r s u rows new row lr ls e count h = record {
+  count = count;
+  pivot_row = h.pivot_row ∙ own;
+  other_rows = λ i li d. h.other_rows i (omega (arith, length-set (swap rows r s) r row, length-swap rows r s)) d
+      ∙ ap₂ (λ x y. sum (mod_ops p) (scale (mod_ops p) ((mod_ops p).neg (get_or x m 0)) y) x) (other i li d) own;
+}
+  where
+    own : get_or (set (swap rows r s) r row) r [] ≡ scale (mod_ops p) u (get_or rows s [])
+    own = get_or-set_same (swap rows r s) r row [] (omega (arith, length-swap rows r s)) ∙ e
+        ∙ ap (scale (mod_ops p) u) (swap_at rows r s r [] lr ls lr ∙ ap (λ k. get_or rows k []) (swapped_first r s))
+
+    other : (i : ℕ) → i < length rows → i ≢ r → get_or (set (swap rows r s) r row) i [] ≡ get_or rows (swapped r s i) []
+    other i li d = get_or-set_other (swap rows r s) r i row [] d ∙ swap_at rows r s i [] lr ls li
+
+pub eliminates_with_pivot : (p m r s u : ℕ) (rows new : List (List ℕ)) (row pivots : List ℕ) → r ≡ length pivots
+    → r ≤ s → s < length rows → AreRows p rows → m < MAX_WIDTH
+    → (mod_ops p).mul (get_or (get_or (swap rows r s) r []) m 0) u ≡ 1 → u < p
+    → row ≡ scale (mod_ops p) u (get_or (swap rows r s) r []) → AreRows p new → length new ≡ length rows
+    → IsCleared (mod_ops p) m r (set (swap rows r s) r row) new
+    → (start : List (List ℕ)) → Eliminates p m start rows pivots → Eliminates p (m + 1) start new (pivots ++ m ∷ [])
+eliminates_with_pivot p m r s u rows new row pivots e rs ls v lm one lu scaled vn count cleared start before = λ h.
+    let at : get_or (get_or (swap rows r s) r []) m 0 ≡ get_or (get_or rows s []) m 0 =
+    ap (λ x. get_or x m 0) (swap_at rows r s r [] (omega arith) ls (omega arith) ∙ ap (λ k. get_or rows k []) (swapped_first r s)) in
+    let step : IsPivotStep (mod_ops p) m r s u rows new = pivot_step p m r s u rows new row (omega arith) ls scaled count cleared in
+    let Q : ℕ → Type 0 = λ k. IsPivotStep (mod_ops p) m k s u rows new in
+    eliminated_with_pivot (residues_propositional p) (residues_ring p h) MAX_WIDTH (length start) m s u (get_or (get_or rows s []) m 0)
+    start rows new pivots (before h) (omega arith) ls lu ((v s [] ls).1 m 0 (omega (arith, (v s [] ls).0)))
+    (ap (λ k. k % p) (mul_comm u (get_or (get_or rows s []) m 0)) ∙ ap (λ k. (k * u) % p) (sym at) ∙ one) refl
+    vn (subst Q e step)
+
+pub eliminates_without_pivot : (p m r : ℕ) (rows : List (List ℕ)) (pivots : List ℕ) → r ≡ length pivots
+    → ((i : ℕ) → r ≤ i → i < length rows → get_or (get_or rows i []) m 0 ≡ 0)
+    → (start : List (List ℕ)) → Eliminates p m start rows pivots → Eliminates p (m + 1) start rows pivots
+eliminates_without_pivot p m r rows pivots e none start before = λ h.
+    eliminated_without_pivot (residues_propositional p) (residues_ring p h) MAX_WIDTH (length start) m start rows pivots (before h)
+    (λ i l li. none i (omega arith) li)
+
+pub eliminates_start : (p : ℕ) (rows : List (List ℕ)) → AreRows p rows → Eliminates p 0 rows rows []
+eliminates_start p rows v = λ h. eliminated_start (residues_propositional p) (residues_ring p h) MAX_WIDTH rows v
+
+-- a list of zeros is zero at each place, and past its end
+pub zeros_at : (n k : ℕ) → ◌≡◌ {A = ℕ} (get_or (replicate n 0) k 0) 0
+zeros_at n k = ⊎_elim (λ l. get_or-replicate n k 0 0 l) (λ l. get_or_past (replicate n 0) k 0 (omega (arith, length-replicate {A = ℕ} n 0))) (cases_lt k n)

@@ -1,0 +1,5 @@
+use Rattle.ff_matrix.proofs.Steps.{AreClearedBelow}
+use Rattle.ff_matrix.proofs.elimination.clear_column.Given as goal
+
+abbrev pub invariant-loop-i : goal.invariant-loop-i
+invariant-loop-i l = AreClearedBelow l.p l.column l.pivot l.source l.fn.rows l.rows l.i

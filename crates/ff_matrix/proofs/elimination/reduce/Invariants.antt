@@ -1,0 +1,10 @@
+use Rattle.std.proofs.Common.{◌≤◌, length}
+use Rattle.ff_matrix.specs.Rows.{AreRows, Eliminates}
+use Rattle.ff_matrix.proofs.elimination.reduce.Given as goal
+
+abbrev pub invariant-loop-column : goal.invariant-loop-column
+invariant-loop-column l = record {
+  residues : AreRows l.p l.rows;
+  few : length l.pivots ≤ l.column;
+  reduced : Eliminates l.p l.column l.fn.rows l.rows l.pivots;
+}

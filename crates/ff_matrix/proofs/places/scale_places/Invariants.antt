@@ -1,0 +1,7 @@
+use Rattle.std.proofs.Common.{get_or}
+use Rattle.ff_model.specs.Coefficients.{mod_ops}
+use Rattle.ff_matrix.proofs.Steps.{AreDone}
+use Rattle.ff_matrix.proofs.places.scale_places.Given as goal
+
+abbrev pub invariant-loop-i : goal.invariant-loop-i
+invariant-loop-i l = AreDone l.p (λ k. (mod_ops l.p).mul l.factor (get_or l.fn.row k 0)) l.fn.row l.row l.i

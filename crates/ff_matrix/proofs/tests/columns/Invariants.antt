@@ -1,0 +1,10 @@
+use Rattle.std.proofs.Common.{◌≡◌, length, All}
+use Rattle.ff_model.specs.Coefficients.{residues}
+use Rattle.ff_model.specs.Matrices.{IsColumn}
+use Rattle.ff_matrix.proofs.tests.columns.Given as goal
+
+abbrev pub invariant-loop-k : goal.invariant-loop-k
+invariant-loop-k g l = record {
+  count : length l.list.items ≡ l._k;
+  columns : All (IsColumn (residues l.p) l.length) l.list.items;
+}

@@ -1,0 +1,2 @@
+pub mod ModularMatrix
+pub mod Rows

@@ -1,0 +1,43 @@
+-- What the clauses of the elimination speak of; no public clause cites these.
+--     AreRows p rows                   rows of MAX_WIDTH numbers below p
+--     IsCleared o m r rows new         to each row but r that multiple of row r is added which makes its entry in column m zero
+--     ArePlaces n places               rising numbers below n
+--     IsKernelColumn p form pivots f x     x is one at f, and - form_(i, f) at the pivot of row i
+--     IsAugmented p m rows             the rows of m beside the identity
+--     Eliminates p m start rows pivots     rows come from start by an invertible matrix, and their first m columns are reduced
+use Rattle.std.specs.Prelude.{◌≡◌, ◌≢◌, ℕ, ◌+◌, ◌<◌, ◌==◌, if◌then◌else◌, List, [], length, All, slice_index, slice_index_or}
+use Rattle.ff_model.specs.Coefficients.{Ops, residues, mod_ops}
+use Rattle.ff_model.specs.Polynomials.{sum, scale}
+use Rattle.ff_model.specs.Matrices.{Matrix, entry, IsColumn}
+use Rattle.ff_rings.proofs.Residues.{residues_ring}
+use Rattle.ff_linear.proofs.Elimination.{IsEliminated}
+use Rattle.ff_matrix.specs.declared.TheConstants.{MAX_WIDTH}
+
+abbrev pub AreRows : ℕ → List (List ℕ) → Type 0
+AreRows p rows = All (IsColumn (residues p) MAX_WIDTH) rows
+
+pub record IsCleared {A : Type 0} (o : Ops A) (m r : ℕ) (rows new : List (List A)) : Type 0 where
+  pub pivot_row : slice_index_or new r [] ≡ slice_index_or rows r []
+  pub other_rows : (i : ℕ) → i < length rows → i ≢ r
+      → slice_index_or new i []
+      ≡ sum o (scale o (o.neg (slice_index_or (slice_index_or rows i []) m o.zero)) (slice_index_or rows r [])) (slice_index_or rows i [])
+
+abbrev pub Eliminates : ℕ → ℕ → List (List ℕ) → List (List ℕ) → List ℕ → Type 0
+Eliminates p m start rows pivots = (h : 1 < p) → IsEliminated (residues_ring p h) MAX_WIDTH (length start) m start rows pivots
+
+-- the rows of m, and beside them those of the identity
+pub record IsAugmented (p : ℕ) (m : Matrix ℕ) (rows : List (List ℕ)) : Type 0 where
+  pub count : length rows ≡ m.rows
+  pub residues : AreRows p rows
+  pub left : (i k : ℕ) → i < m.rows → k < length m.columns → slice_index (slice_index_or rows i []) k ≡ entry (mod_ops p) m i k
+  pub right : (i k : ℕ) → i < m.rows → k < m.rows → slice_index (slice_index_or rows i []) (length m.columns + k) ≡ (if i == k then 1 else 0)
+
+pub record ArePlaces (n : ℕ) (places : List ℕ) : Type 0 where
+  pub rising : (i j : ℕ) → i < j → j < length places → slice_index places i < slice_index places j
+  pub within : (i : ℕ) → i < length places → slice_index places i < n
+
+pub record IsKernelColumn (p : ℕ) (form : Matrix ℕ) (pivots : List ℕ) (f : ℕ) (x : List ℕ) : Type 0 where
+  pub column : IsColumn (residues p) (length form.columns) x
+  pub one : slice_index x f ≡ 1
+  pub at_pivot : (i : ℕ) → i < length pivots → slice_index x (slice_index pivots i) ≡ (mod_ops p).neg (entry (mod_ops p) form i f)
+  pub zero_elsewhere : (k : ℕ) → k ≢ f → ((i : ℕ) → i < length pivots → slice_index pivots i ≢ k) → slice_index x k ≡ 0

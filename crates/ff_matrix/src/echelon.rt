@@ -1,0 +1,123 @@
+//! The reduced row echelon form of a matrix.
+ghost use Rattle.std.specs.Prelude.{◌≡◌, ℕ, ◌+◌, ◌<◌, ◌≤◌, ◌==◌, if◌then◌else◌, length, map, replicate, All, slice_index};
+ghost use Rattle.std.specs.List.{range_with_len};
+ghost use Rattle.ff_model.specs.Coefficients.{residues, mod_ops};
+ghost use Rattle.ff_model.specs.Matrices.{entry, IsColumn, IsReduction};
+ghost use Rattle.ff_matrix.specs.ModularMatrix.{IsModularMatrix};
+ghost use Rattle.ff_matrix.specs.Rows.{AreRows, IsAugmented};
+
+use crate::elimination::{Row, reduce};
+use crate::{Column, ColumnList, MAX_WIDTH, Matrix};
+use ff_poly::{MAX_DEGREE, Prime};
+
+/// The reduced row echelon form of a matrix.
+#[derive(Drop)]
+pub struct Echelon {
+    /// The form.
+    pub form: Matrix,
+    /// A square matrix with an inverse, whose product with the matrix is the form.
+    pub transform: Matrix,
+    /// The pivot columns of the form, rising.
+    pub pivots: Column,
+}
+
+impl Matrix {
+    /// The reduced row echelon form, by Gauss-Jordan elimination on the matrix beside the identity (Hoffman and Kunze, Linear Algebra, 1.4).
+    pub fn echelon(&self) -> Echelon
+        ensures form { result.form.prime ≡ self.now.prime }
+        ensures transform { result.transform.prime ≡ self.now.prime }
+        ensures reduction { IsReduction (residues self.now.prime) self.now.matrix result.form.matrix result.transform.matrix result.pivots }
+        ensures whole { IsModularMatrix result.form × IsModularMatrix result.transform }
+    {
+        let rows = self.rows();
+        let mut room = [[0; MAX_WIDTH]; MAX_DEGREE];
+        echelon_in(self, &mut room[..rows])
+    }
+}
+
+// The reduced row echelon form, worked out in these rows.
+fn echelon_in(m: &Matrix, rows: &mut [Row]) -> Echelon
+    requires { length rows.old ≡ m.now.matrix.rows }
+    ensures form { result.form.prime ≡ m.now.prime }
+    ensures transform { result.transform.prime ≡ m.now.prime }
+    ensures reduction { IsReduction (residues m.now.prime) m.now.matrix result.form.matrix result.transform.matrix result.pivots }
+    ensures whole { IsModularMatrix result.form × IsModularMatrix result.transform }
+{
+    let (p, columns) = (m.prime(), m.columns());
+    augment(m, rows);
+    let pivots = reduce(p, rows, columns);
+    Echelon {
+        form: block(p, rows, 0, columns),
+        transform: block(p, rows, columns, rows.len()),
+        pivots,
+    }
+}
+
+// Makes the rows those of the matrix, and beside them those of the identity.
+fn augment(m: &Matrix, rows: &mut [Row])
+    requires { length rows.old ≡ m.now.matrix.rows }
+    ensures { IsAugmented m.now.prime m.now.matrix rows.new }
+{
+    for i in 0..rows.len() {
+        rows[i] = augmented_row(m, i);
+    }
+}
+
+// Row i of the matrix, and beside it row i of the identity.
+fn augmented_row(m: &Matrix, i: usize) -> Row
+    requires { i < m.now.matrix.rows }
+    ensures row { IsColumn (residues m.now.prime) MAX_WIDTH result }
+    ensures left { (k : ℕ) → k < length m.now.matrix.columns → slice_index result k ≡ entry (mod_ops m.now.prime) m.now.matrix i k }
+    ensures right { (k : ℕ) → k < m.now.matrix.rows
+        → slice_index result (length m.now.matrix.columns + k) ≡ (if i == k then 1 else 0) }
+{
+    let columns = m.columns();
+    let _rows = m.rows();
+    let _number = m.prime().number();
+    let mut row = blank_row();
+    for k in 0..columns {
+        row[k] = m.at(i, k);
+    }
+    row[columns + i] = 1;
+    row
+}
+
+// A row of zeros.
+fn blank_row() -> Row
+    ensures { result ≡ replicate MAX_WIDTH 0 }
+{
+    [0; MAX_WIDTH]
+}
+
+// The matrix in `count` columns of the rows, from `start` on.
+fn block(p: Prime, rows: &[Row], start: usize, count: usize) -> Matrix
+    requires rows_fit { length rows.now ≤ MAX_DEGREE }
+    requires count { count ≤ MAX_DEGREE }
+    requires within { start + count ≤ MAX_WIDTH }
+    requires residues { AreRows p rows.now }
+    ensures prime { result.prime ≡ p }
+    ensures rows { result.matrix.rows ≡ length rows.now }
+    ensures columns { result.matrix.columns ≡ map (λ k. map (λ row. slice_index row k) rows.now) (range_with_len start count) }
+    ensures whole { IsModularMatrix result }
+{
+    let mut columns = ColumnList::new();
+    for k in 0..count {
+        columns.push(column_of(p, rows, start + k));
+    }
+    Matrix::of_list(p, rows.len(), columns)
+}
+
+// Column k of the rows.
+fn column_of(p: Prime, rows: &[Row], k: usize) -> Column
+    requires rows_fit { length rows.now ≤ MAX_DEGREE }
+    requires within { k < MAX_WIDTH }
+    requires residues { AreRows p rows.now }
+    ensures value { result ≡ map (λ row. slice_index row k) rows.now }
+    ensures column { IsColumn (residues p) (length rows.now) result }
+{
+    let mut column = Column::of_slice(&[]);
+    for row in rows {
+        column.push(row[k]);
+    }
+    column
+}

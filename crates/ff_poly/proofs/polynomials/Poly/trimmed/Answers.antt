@@ -1,0 +1,24 @@
+use Rattle.std.proofs.Common.{length, sym, ap, ◌∙◌, subst, arith, length-take}
+use Rattle.ff_model.specs.Coefficients.{residues}
+use Rattle.ff_model.specs.Factors.{IsPolynomial}
+use Rattle.ff_rings.proofs.Residues.{residues_ring}
+use Rattle.ff_rings.proofs.ResidueFields.{residues_propositional}
+use Rattle.ff_rings.proofs.Carriers.{trim_polynomial}
+use Rattle.ff_poly.specs.Polynomial.{IsPoly}
+use Rattle.ff_poly.proofs.polynomials.Poly.trimmed.Goals as goal
+
+stored_poly : (c : goal.After-stored) → IsPoly (record { prime = c.args.p; coefficients = c.stored.result.items })
+stored_poly c =
+    let p = c.args.p in
+    let xs = c.args.c.now in
+    record {
+      characteristic = c.number-number.ensures.whole;
+      polynomial = subst (IsPolynomial (residues p)) (sym (c.stored.ensures ∙ c.trimmed_len.ensures.trimmed p)) (trim_polynomial (residues_propositional p) (residues_ring p (omega arith)) xs c.requires.residues);
+      fits = omega (arith, ap length c.stored.ensures, length-take c.trimmed_len.result xs);
+    }
+
+pub invariant_of-result : goal.invariant_of-result
+invariant_of-result c = stored_poly c
+
+pub returns-clause-whole : goal.returns-clause-whole
+returns-clause-whole c = stored_poly c

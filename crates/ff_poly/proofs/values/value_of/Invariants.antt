@@ -1,0 +1,14 @@
+use Rattle.std.proofs.Common.{◌≡◌, ◌<◌, ◌≤◌, drop, length}
+use Rattle.ff_model.specs.Coefficients.{mod_ops}
+use Rattle.ff_model.specs.Polynomials.{value_at}
+use Rattle.ff_poly.proofs.values.value_of.Given as goal
+
+abbrev pub invariant-loop-n : goal.invariant-loop-n
+invariant-loop-n l = record {
+  within : l.n ≤ length l.f;
+  horner : l.value ≡ value_at (mod_ops l.number) (drop l.n l.f) l.c;
+  residue : l.value < l.number;
+}
+
+abbrev pub decreases-loop-n : goal.decreases-loop-n
+decreases-loop-n l = l.n

@@ -1,0 +1,155 @@
+//! Greatest common divisors, and how they combine two polynomials.
+ghost use Rattle.std.specs.Prelude.{◌≡◌, ◌≢◌, ℕ, ◌+◌, ◌-◌, ◌<◌, ◌≤◌, max, List, [], ◌∷◌, length};
+ghost use Rattle.ff_model.specs.Coefficients.{mod_ops, residues};
+ghost use Rattle.ff_model.specs.Polynomials.{trim, poly_sum, poly_difference, poly_product, leading};
+ghost use Rattle.ff_model.specs.Factors.{IsDivision, IsGreatestCommonDivisor};
+ghost use Rattle.ff_poly.specs.Normalizer.{IsNormalizer};
+ghost use Rattle.ff_poly.specs.Polynomial.{IsPoly};
+
+use crate::{MAX_POLY, Poly};
+
+/// The greatest common divisor `g` of two polynomials `a` and `b`, with `u * a + w * b = g`.
+#[derive(Drop)]
+pub struct Bezout {
+    /// The greatest common divisor.
+    pub g: Poly,
+
+    /// The factor of the first polynomial.
+    pub u: Poly,
+
+    /// The factor of the second polynomial.
+    pub w: Poly,
+}
+
+impl Poly {
+    /// The greatest common divisor: monic, and 0 exactly where both are 0.
+    ///
+    /// Euclid's algorithm (Knuth, The Art of Computer Programming 2, section 4.6.1, algorithm E).
+    pub fn gcd(&self, b: &Poly) -> Poly
+        requires { self.now.prime ≡ b.now.prime }
+        ensures prime { result.prime ≡ self.now.prime }
+        ensures gcd { IsGreatestCommonDivisor (residues self.now.prime) self.now.coefficients b.now.coefficients
+            result.coefficients }
+    {
+        let mut first = self.copy();
+        let mut second = b.copy();
+        'euclid: while !second.is_zero() {
+            let (_, rest) = first.divrem(&second);
+            first = second;
+            second = rest;
+        }
+        first.made_monic()
+    }
+
+    /// The greatest common divisor of this as `a` and of `b`, and how they combine to it: `u * a + w * b = g`.
+    ///
+    /// The extended algorithm of Euclid: each remainder is kept with its own `u` and `w`. They are short: `u` has no more
+    /// coefficients than `b` has beyond those of `g`, or it is 1, and so has `w` for `a`.
+    pub fn bezout(&self, b: &Poly) -> Bezout
+        requires same_prime { self.now.prime ≡ b.now.prime }
+        requires not_both_zero { 0 < length self.now.coefficients + length b.now.coefficients }
+        ensures primes { (result.g.prime ≡ self.now.prime) × (result.u.prime ≡ self.now.prime)
+            × (result.w.prime ≡ self.now.prime) }
+        ensures gcd { IsGreatestCommonDivisor (residues self.now.prime) self.now.coefficients b.now.coefficients
+            result.g.coefficients }
+        ensures identity { let o = mod_ops self.now.prime in
+            poly_sum o (poly_product o result.u.coefficients self.now.coefficients)
+            (poly_product o result.w.coefficients b.now.coefficients) ≡ result.g.coefficients }
+        ensures first_short { length result.u.coefficients
+            ≤ max 1 (length b.now.coefficients - length result.g.coefficients) }
+        ensures second_short { length result.w.coefficients
+            ≤ max 1 (length self.now.coefficients - length result.g.coefficients) }
+    {
+        let p = self.prime();
+        let mut first = Bezout {
+            g: self.copy(),
+            u: Poly::trimmed(p, &[1]),
+            w: Poly::trimmed(p, &[]),
+        };
+        let mut second = Bezout {
+            g: b.copy(),
+            u: Poly::trimmed(p, &[]),
+            w: Poly::trimmed(p, &[1]),
+        };
+        'euclid: while !second.g.is_zero() {
+            let rest = first.rest(&second);
+            first = second;
+            second = rest;
+        }
+        first.made_monic()
+    }
+
+    // This times the inverse of its last coefficient, which is the greatest common divisor with 0; 0 as it is.
+    fn made_monic(&self) -> Poly
+        ensures prime { result.prime ≡ self.now.prime }
+        ensures gcd { IsGreatestCommonDivisor (residues self.now.prime) self.now.coefficients [] result.coefficients }
+    {
+        if self.coefficients().is_empty() {
+            return self.copy();
+        }
+        self.normalizer().mul(self)
+    }
+
+    // The constant by which this is to be multiplied to become monic.
+    fn normalizer(&self) -> Poly
+        requires { self.now.coefficients ≢ [] }
+        ensures prime { result.prime ≡ self.now.prime }
+        ensures whole { IsPoly self.now }
+        ensures short { length result.coefficients ≤ 1 }
+        ensures normalizer { IsNormalizer self.now.prime self.now.coefficients result.coefficients }
+    {
+        let p = self.prime();
+        let coefficients = self.coefficients();
+        let inverse = p.inv(coefficients[coefficients.len() - 1]);
+        Poly::trimmed(p, &[inverse])
+    }
+}
+
+impl Bezout {
+    // The remainder of this by `d`, with what it is made of: less q times what the divisor is made of.
+    fn rest(&self, d: &Bezout) -> Bezout
+        requires primes { (self.now.u.prime ≡ self.now.g.prime) × (self.now.w.prime ≡ self.now.g.prime)
+            × (d.now.g.prime ≡ self.now.g.prime) × (d.now.u.prime ≡ self.now.g.prime)
+            × (d.now.w.prime ≡ self.now.g.prime) }
+        requires not_zero { d.now.g.coefficients ≢ [] }
+        requires first_room { length self.now.g.coefficients + 1 - length d.now.g.coefficients
+            + length d.now.u.coefficients ≤ MAX_POLY + 1 }
+        requires second_room { length self.now.g.coefficients + 1 - length d.now.g.coefficients
+            + length d.now.w.coefficients ≤ MAX_POLY + 1 }
+        ensures primes { (result.g.prime ≡ self.now.g.prime) × (result.u.prime ≡ self.now.g.prime)
+            × (result.w.prime ≡ self.now.g.prime) }
+        ensures division { let o = mod_ops self.now.g.prime in
+            (q : List ℕ) × IsDivision (residues self.now.g.prime) self.now.g.coefficients d.now.g.coefficients q
+            result.g.coefficients
+            × (result.u.coefficients ≡ poly_difference o self.now.u.coefficients (poly_product o q d.now.u.coefficients))
+            × (result.w.coefficients ≡ poly_difference o self.now.w.coefficients (poly_product o q d.now.w.coefficients)) }
+    {
+        let (quotient, rest) = self.g.divrem(&d.g);
+        Bezout {
+            g: rest,
+            u: self.u.sub(&quotient.mul(&d.u)),
+            w: self.w.sub(&quotient.mul(&d.w)),
+        }
+    }
+
+    // The monic multiple, with the same multiple of what it is made of.
+    fn made_monic(&self) -> Bezout
+        requires primes { (self.now.u.prime ≡ self.now.g.prime) × (self.now.w.prime ≡ self.now.g.prime) }
+        requires not_zero { self.now.g.coefficients ≢ [] }
+        requires room { (length self.now.u.coefficients ≤ MAX_POLY) × (length self.now.w.coefficients ≤ MAX_POLY) }
+        ensures primes { (result.g.prime ≡ self.now.g.prime) × (result.u.prime ≡ self.now.g.prime)
+            × (result.w.prime ≡ self.now.g.prime) }
+        ensures multiple { let o = mod_ops self.now.g.prime in
+            (k : List ℕ) × IsNormalizer self.now.g.prime self.now.g.coefficients k × (length k ≤ 1)
+            × (result.g.coefficients ≡ poly_product o k self.now.g.coefficients)
+            × (result.u.coefficients ≡ poly_product o k self.now.u.coefficients)
+            × (result.w.coefficients ≡ poly_product o k self.now.w.coefficients) }
+    {
+        let k = self.g.normalizer();
+        Bezout {
+            g: k.mul(&self.g),
+            u: k.mul(&self.u),
+            w: k.mul(&self.w),
+        }
+    }
+}

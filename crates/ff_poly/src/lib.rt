@@ -1,0 +1,31 @@
+//! Residues modulo a small prime, and polynomials over them, in a fixed room and without allocation.
+//!
+//! Coefficients stand lowest first. The last one isn't zero, so that the zero polynomial has none.
+#![tactic(auto)]
+
+mod arithmetic;
+mod division;
+mod divisors;
+mod places;
+mod polynomials;
+mod powers;
+mod products;
+#[cfg(test)]
+mod tests;
+mod values;
+
+pub use arithmetic::{CHARACTERISTICS, Prime};
+pub use divisors::Bezout;
+pub use polynomials::Poly;
+
+/// The greatest degree of a field.
+pub const MAX_DEGREE: usize = 24;
+
+/// The greatest number of coefficients of a polynomial over a prime field.
+pub const MAX_POLY: usize = 64;
+
+/// The greatest number of coefficients of a polynomial over a field.
+pub const MAX_POLYX: usize = 49;
+
+/// The number of characteristics.
+pub const PRIMES: usize = 11;

@@ -1,0 +1,1 @@
+-- One line on, and what comes at the end.

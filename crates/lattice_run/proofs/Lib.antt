@@ -1,0 +1,7 @@
+pub mod PrimeNames
+pub mod Building
+pub mod Declaring
+pub mod Playing
+pub mod Running
+pub mod Statuses
+pub mod Determined

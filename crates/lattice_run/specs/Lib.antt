@@ -1,0 +1,4 @@
+pub mod Lattice
+pub mod Transcript
+pub mod Answers
+pub mod Runs

@@ -1,0 +1,10 @@
+//! The top call: words and bytes in, bytes and a status out.
+#![tactic(auto)]
+
+mod lattice;
+mod play;
+mod run;
+#[cfg(test)]
+mod tests;
+
+pub use run::{MAX_INPUT, one_answer, one_transcript, run_plain};

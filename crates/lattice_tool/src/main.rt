@@ -1,0 +1,39 @@
+//! `lattice_tool`: the program over the real input, output and words.
+#![tactic(auto)]
+
+use lat_io::{StdSink, StdSource};
+use lattice_run::run_plain;
+use std::alloc::{AllocError, Global};
+use std::process::ExitCode;
+use std::{env, io};
+
+// The words after the program's name; None where there is no memory.
+fn words_of(alloc: Global, arguments: env::Args) -> Option<Vec<String>> {
+    let mut words = Vec::new(alloc);
+    for word in arguments.skip(1) {
+        words.push(word).ok()?;
+    }
+    Some(words)
+}
+
+// The status where the words aren't handed out: 6 for want of memory, else 8.
+fn status_of(error: &io::Error) -> u8 {
+    if error.kind() == io::ErrorKind::OutOfMemory {
+        6
+    } else {
+        8
+    }
+}
+
+fn main(rt: HostRuntime) -> ExitCode {
+    let arguments = match env::args(&rt) {
+        Ok(arguments) => arguments,
+        Err(error) => return ExitCode::from(status_of(&error)),
+    };
+    let Some(words) = words_of(rt.alloc(), arguments) else {
+        return ExitCode::from(6);
+    };
+    let mut source = StdSource::new(rt.reader());
+    let mut sink = StdSink::new(io::writer(&rt));
+    ExitCode::from(run_plain(rt.alloc(), &words, &mut source, &mut sink))
+}
