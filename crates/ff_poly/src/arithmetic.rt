@@ -27,6 +27,15 @@ impl Model for Prime {
     ghost inverse = { λ n. record { number = n } };
 }
 
+impl Default for Prime {
+    /// The first characteristic, 2.
+    fn default() -> Prime
+        ensures { result ≡ 2 }
+    {
+        Prime { number: 2 }
+    }
+}
+
 impl Prime {
     /// The characteristic `n`, or `None` where `n` is none of the eleven.
     pub fn of(n: u32) -> Option<Prime>

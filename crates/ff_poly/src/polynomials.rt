@@ -27,6 +27,15 @@ impl Model for Poly {
     ghost invariant = { λ a. IsPoly (record { prime = a.prime; coefficients = a.coefficients.items }) };
 }
 
+impl Default for Poly {
+    /// The zero polynomial over the first characteristic.
+    fn default() -> Poly
+        ensures { result.coefficients ≡ [] }
+    {
+        Poly::trimmed(Prime::default(), &[])
+    }
+}
+
 impl Poly {
     ghost use Rattle.ff_poly.specs.Polynomial.{IsPoly};
 

@@ -7,7 +7,7 @@
 use Rattle.std.specs.Prelude.{ℕ, List, [], ◌++◌, if◌then◌else◌, codes, decimal}
 use Rattle.lat_script.specs.Digits.{digits_text}
 use Rattle.lat_script.specs.declared.replies.StepRefusal.{StepRefusal}
-use Rattle.lat_script.specs.declared.replies.StepRefusal.TheVariants.{NotInTable, DegreeOutOfRange, CoefficientTooLarge, NotMonic, NameTaken, Reducible, TooManyFields, NotBuilt}
+use Rattle.lat_script.specs.declared.replies.StepRefusal.TheVariants.{NotInTable, DegreeOutOfRange, CoefficientTooLarge, NotMonic, NameTaken, Reducible, TooManyFields}
 use Rattle.lat_script.specs.declared.replies.Reply.{Reply}
 use Rattle.lat_script.specs.declared.replies.Reply.TheVariants.{Declared, Refused}
 use Rattle.lat_script.specs.declared.replies.Outcome.{Outcome}
@@ -22,7 +22,6 @@ refusal_text NotMonic = codes "4"
 refusal_text (NameTaken number) = codes "5 " ++ decimal number
 refusal_text (Reducible factor) = codes "6 " ++ digits_text factor.coefficients
 refusal_text (TooManyFields have need) = codes "7 " ++ decimal have ++ codes " " ++ decimal need
-refusal_text NotBuilt = codes "22"
 
 abbrev pub reply_text : Reply → List ℕ
 reply_text (Declared number already) = codes "ok field " ++ decimal number ++ (if already then codes " already" else [])

@@ -19,8 +19,6 @@ pub enum StepRefusal {
     Reducible { factor: Poly },
     /// The lattice has `have` fields, and `need` more are too many.
     TooManyFields { have: u32, need: u32 },
-    /// What the change asks for isn't built yet.
-    NotBuilt,
 }
 
 /// The reply to a change.

@@ -190,8 +190,7 @@ fn refused_lines(rt: HostRuntime) -> Result<(), Fail> {
         &rt,
         StepRefusal::TooManyFields { have: 200, need: 1 },
         b"refused 7 200 1 @0\n",
-    )?;
-    refuses(&rt, StepRefusal::NotBuilt, b"refused 22 @0\n")
+    )
 }
 
 #[test]

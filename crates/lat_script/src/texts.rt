@@ -42,7 +42,6 @@ fn add_refusal(out: &mut Vec<u8>, refusal: &StepRefusal) -> Result<(), NoMemory>
                 Piece::Number(*need),
             ],
         ),
-        StepRefusal::NotBuilt => append(out, &[Piece::Text(b"refused 22")]),
     }
 }
 

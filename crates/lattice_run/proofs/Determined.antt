@@ -1,6 +1,7 @@
 -- A script has one transcript, and words and input have one answer.
-use Rattle.std.proofs.Common.{◌≡◌, ℕ, List, [], ◌∷◌, ◌++◌, ◌+◌, arith, ◌∙◌, sym, ap, ap₂, subst, refl, Some, None, Option}
+use Rattle.std.proofs.Common.{◌≡◌, ℕ, List, [], ◌∷◌, ◌++◌, ◌+◌, arith, ◌∙◌, sym, ap, ap₂, subst, refl, Some, None, Option, ◌<◌, ◌≤◌, inl, inr}
 use Rattle.std.specs.Prelude.{slice_get}
+use Rattle.std.proofs.lemmas.Bool.{cases_order}
 use Rattle.std.proofs.lemmas.Cmp.{nat_cmp_total}
 use Rattle.ff_divisors.proofs.LeastFactors.{least_factor_unique}
 use Rattle.ff_divisors.proofs.Order.{nat_cmp_same}
@@ -8,13 +9,15 @@ use Rattle.lat_script.specs.declared.commands.Command.{Command}
 use Rattle.lat_script.specs.declared.commands.Command.TheVariants.{Field}
 use Rattle.lat_script.specs.declared.replies.Reply.{Reply}
 use Rattle.lat_script.specs.declared.replies.Reply.TheVariants.{Refused}
-use Rattle.lat_script.specs.declared.replies.StepRefusal.TheVariants.{Reducible}
+use Rattle.lat_script.specs.declared.replies.StepRefusal.{StepRefusal}
+use Rattle.lat_script.specs.declared.replies.StepRefusal.TheVariants.{CoefficientTooLarge, Reducible}
 use Rattle.lat_script.specs.declared.replies.Outcome.TheVariants.{Changed}
 use Rattle.lat_script.specs.Texts.{line_text, bad_line_text}
 use Rattle.lat_script.proofs.GrammarLemmas.{script_unique, fault_unique, never_both}
-use Rattle.lattice_run.specs.Lattice.{FieldRow, Renames, Declares, opening}
+use Rattle.lattice_run.specs.Lattice.{FieldRow, IsFirstTooLarge, IsWellFormed, IsMalformed, Renames, Declares, opening}
 use Rattle.lattice_run.specs.Lattice.Renames.{same, other}
-use Rattle.lattice_run.specs.Lattice.Declares.{not_built, named, reducible, declared}
+use Rattle.lattice_run.specs.Lattice.Declares.{malformed, named, reducible, full, declared}
+use Rattle.lattice_run.specs.Lattice.IsMalformed.{not_in_table, degree_out_of_range, coefficient_too_large, not_monic}
 use Rattle.lattice_run.specs.Transcript.{PlaysOne, Plays, IsTranscript}
 use Rattle.lattice_run.specs.Answers.{Answers}
 use Rattle.lattice_run.specs.Answers.Answers.{usage, too_long, bad_line, played}
@@ -25,34 +28,79 @@ some_same e = cc
 some_not_none : {X : Type 0} {x : X} {o : Option X} → o ≡ Some x → o ≡ None → ⊥
 some_not_none e n = cc
 
+not_below : {p a : ℕ} → p ≤ a → a < p → ⊥
+not_below h l = absurd (omega arith)
+
+first_same : {p : ℕ} {f : List ℕ} {i j : ℕ} → IsFirstTooLarge p f i → IsFirstTooLarge p f j → i ≡ j
+first_same {p} {f} {i} {j} a b = elim (cases_order i j) [
+  | inl e ↦ e
+  | inr k ↦ elim k [
+    | inl l ↦ absurd (not_below a.too_large (b.first i l))
+    | inr l ↦ absurd (not_below b.too_large (a.first j l))
+  ]
+]
+
 renames_one : {row : FieldRow} {p : ℕ} {f : List ℕ} {n : ℕ} {r s : Reply} → Renames row p f n r → Renames row p f n s → r ≡ s
 renames_one (same a b e) (same c d k) = e ∙ sym k
 renames_one (same a b e) (other h k) = absurd (h (a, b))
 renames_one (other h e) (same a b k) = absurd (h (a, b))
 renames_one (other h e) (other l k) = e ∙ sym k
 
+malformed_not_well : {p : ℕ} {f : List ℕ} {r : StepRefusal} → IsMalformed p f r → IsWellFormed p f → ⊥
+malformed_not_well (not_in_table h e) w = h w.characteristic
+malformed_not_well (degree_out_of_range c h e) w = h w.in_range
+malformed_not_well {f = f} (coefficient_too_large c d place first e) w = not_below (first.too_large) (w.coefficients place 0 first.within)
+malformed_not_well (not_monic c d a h e) w = h w.monic
+
+malformed_one : {p : ℕ} {f : List ℕ} {r s : StepRefusal} → IsMalformed p f r → IsMalformed p f s → r ≡ s
+malformed_one (not_in_table h1 e1) (not_in_table h2 e2) = e1 ∙ sym e2
+malformed_one (not_in_table h1 e1) (degree_out_of_range c2 h2 e2) = absurd (h1 c2)
+malformed_one (not_in_table h1 e1) (coefficient_too_large c2 d2 place2 first2 e2) = absurd (h1 c2)
+malformed_one (not_in_table h1 e1) (not_monic c2 d2 a2 h2 e2) = absurd (h1 c2)
+malformed_one (degree_out_of_range c1 h1 e1) (not_in_table h2 e2) = absurd (h2 c1)
+malformed_one (degree_out_of_range c1 h1 e1) (degree_out_of_range c2 h2 e2) = e1 ∙ sym e2
+malformed_one (degree_out_of_range c1 h1 e1) (coefficient_too_large c2 d2 place2 first2 e2) = absurd (h1 d2)
+malformed_one (degree_out_of_range c1 h1 e1) (not_monic c2 d2 a2 h2 e2) = absurd (h1 d2)
+malformed_one (coefficient_too_large c1 d1 place1 first1 e1) (not_in_table h2 e2) = absurd (h2 c1)
+malformed_one (coefficient_too_large c1 d1 place1 first1 e1) (degree_out_of_range c2 h2 e2) = absurd (h2 d1)
+malformed_one (coefficient_too_large c1 d1 place1 first1 e1) (coefficient_too_large c2 d2 place2 first2 e2) = e1 ∙ ap CoefficientTooLarge (first_same first1 first2) ∙ sym e2
+malformed_one (coefficient_too_large c1 d1 place1 first1 e1) (not_monic c2 d2 a2 h2 e2) = absurd (not_below first1.too_large (a2 place1 0 first1.within))
+malformed_one (not_monic c1 d1 a1 h1 e1) (not_in_table h2 e2) = absurd (h2 c1)
+malformed_one (not_monic c1 d1 a1 h1 e1) (degree_out_of_range c2 h2 e2) = absurd (h2 d1)
+malformed_one (not_monic c1 d1 a1 h1 e1) (coefficient_too_large c2 d2 place2 first2 e2) = absurd (not_below first2.too_large (a1 place2 0 first2.within))
+malformed_one (not_monic c1 d1 a1 h1 e1) (not_monic c2 d2 a2 h2 e2) = e1 ∙ sym e2
+
 pub declares_one : {rows : List FieldRow} {name : List ℕ} {p : ℕ} {f : List ℕ} {r s : Reply} {new new' : List FieldRow}
     → Declares rows name p f r new → Declares rows name p f s new' → (r ≡ s) × (new ≡ new')
-declares_one (not_built h e k) (not_built h' e' k') = (e ∙ sym e', k ∙ sym k')
-declares_one (not_built h e k) (named b n row i g rn k') = absurd (h b)
-declares_one (not_built h e k) (reducible b i g l e' k') = absurd (h b)
-declares_one (not_built h e k) (declared b i l e' k') = absurd (h b)
-declares_one (named b n row i g rn k) (not_built h e' k') = absurd (h b)
-declares_one {p = p} {f = f} {s = s} (named b n row i g rn k) (named b' n' row' i' g' rn' k') =
-    let same-n : n' ≡ n = some_same (sym i' ∙ i) in
-    let same-row : row' ≡ row = some_same (sym g' ∙ ap (slice_get _) same-n ∙ g) in
-    (renames_one rn (subst (λ m. Renames row p f m s) same-n (subst (λ w. Renames w p f n' s) same-row rn')), k ∙ sym k')
-declares_one (named b n row i g rn k) (reducible b' i' h l e' k') = absurd (some_not_none i i')
-declares_one (named b n row i g rn k) (declared b' i' l e' k') = absurd (some_not_none i i')
-declares_one (reducible b i g l e k) (not_built h e' k') = absurd (h b)
-declares_one (reducible b i g l e k) (named b' n row i' g' rn k') = absurd (some_not_none i' i)
-declares_one {p = p} (reducible b i g l e k) (reducible b' i' g' l' e' k') =
-    (e ∙ ap (λ x. Refused (Reducible (record { prime = p; coefficients = x }))) (least_factor_unique nat_cmp_total nat_cmp_same l l') ∙ sym e', k ∙ sym k')
-declares_one (reducible b i g l e k) (declared b' i' l' e' k') = absurd (l'.no_factor g l.factor)
-declares_one (declared b i l e k) (not_built h e' k') = absurd (h b)
-declares_one (declared b i l e k) (named b' n row i' g' rn k') = absurd (some_not_none i' i)
-declares_one (declared b i l e k) (reducible b' i' g' l' e' k') = absurd (l.no_factor g' l'.factor)
-declares_one (declared b i l e k) (declared b' i' l' e' k') = (e ∙ sym e', k ∙ sym k')
+declares_one (malformed x1 m1 e1 k1) (malformed x2 m2 e2 k2) = (e1 ∙ ap Refused (malformed_one m1 m2) ∙ sym e2, k1 ∙ sym k2)
+declares_one (malformed x1 m1 e1 k1) (named b2 n2 row2 i2 g2 rn2 k2) = absurd (malformed_not_well m1 b2)
+declares_one (malformed x1 m1 e1 k1) (reducible b2 i2 g2 l2 e2 k2) = absurd (malformed_not_well m1 b2)
+declares_one (malformed x1 m1 e1 k1) (full b2 i2 l2 m2 e2 k2) = absurd (malformed_not_well m1 b2)
+declares_one (malformed x1 m1 e1 k1) (declared b2 i2 l2 m2 e2 k2) = absurd (malformed_not_well m1 b2)
+declares_one (named b1 n1 row1 i1 g1 rn1 k1) (malformed x2 m2 e2 k2) = absurd (malformed_not_well m2 b1)
+declares_one {p = p} {f = f} {s = s} (named b1 n1 row1 i1 g1 rn1 k1) (named b2 n2 row2 i2 g2 rn2 k2) =
+    let same-n : n2 ≡ n1 = some_same (sym i2 ∙ i1) in
+    let same-row : row2 ≡ row1 = some_same (sym g2 ∙ ap (slice_get _) same-n ∙ g1) in
+    (renames_one rn1 (subst (λ m. Renames row1 p f m s) same-n (subst (λ w. Renames w p f n2 s) same-row rn2)), k1 ∙ sym k2)
+declares_one (named b1 n1 row1 i1 g1 rn1 k1) (reducible b2 i2 g2 l2 e2 k2) = absurd (some_not_none i1 i2)
+declares_one (named b1 n1 row1 i1 g1 rn1 k1) (full b2 i2 l2 m2 e2 k2) = absurd (some_not_none i1 i2)
+declares_one (named b1 n1 row1 i1 g1 rn1 k1) (declared b2 i2 l2 m2 e2 k2) = absurd (some_not_none i1 i2)
+declares_one (reducible b1 i1 g1 l1 e1 k1) (malformed x2 m2 e2 k2) = absurd (malformed_not_well m2 b1)
+declares_one (reducible b1 i1 g1 l1 e1 k1) (named b2 n2 row2 i2 g2 rn2 k2) = absurd (some_not_none i2 i1)
+declares_one {p = p} (reducible b1 i1 g1 l1 e1 k1) (reducible b2 i2 g2 l2 e2 k2) =
+    (e1 ∙ ap (λ x. Refused (Reducible (record { prime = p; coefficients = x }))) (least_factor_unique nat_cmp_total nat_cmp_same l1 l2) ∙ sym e2, k1 ∙ sym k2)
+declares_one (reducible b1 i1 g1 l1 e1 k1) (full b2 i2 l2 m2 e2 k2) = absurd (l2.no_factor g1 l1.factor)
+declares_one (reducible b1 i1 g1 l1 e1 k1) (declared b2 i2 l2 m2 e2 k2) = absurd (l2.no_factor g1 l1.factor)
+declares_one (full b1 i1 l1 m1 e1 k1) (malformed x2 m2 e2 k2) = absurd (malformed_not_well m2 b1)
+declares_one (full b1 i1 l1 m1 e1 k1) (named b2 n2 row2 i2 g2 rn2 k2) = absurd (some_not_none i2 i1)
+declares_one (full b1 i1 l1 m1 e1 k1) (reducible b2 i2 g2 l2 e2 k2) = absurd (l1.no_factor g2 l2.factor)
+declares_one (full b1 i1 l1 m1 e1 k1) (full b2 i2 l2 m2 e2 k2) = (e1 ∙ sym e2, k1 ∙ sym k2)
+declares_one (full b1 i1 l1 m1 e1 k1) (declared b2 i2 l2 m2 e2 k2) = absurd (omega (arith, m1, m2))
+declares_one (declared b1 i1 l1 m1 e1 k1) (malformed x2 m2 e2 k2) = absurd (malformed_not_well m2 b1)
+declares_one (declared b1 i1 l1 m1 e1 k1) (named b2 n2 row2 i2 g2 rn2 k2) = absurd (some_not_none i2 i1)
+declares_one (declared b1 i1 l1 m1 e1 k1) (reducible b2 i2 g2 l2 e2 k2) = absurd (l1.no_factor g2 l2.factor)
+declares_one (declared b1 i1 l1 m1 e1 k1) (full b2 i2 l2 m2 e2 k2) = absurd (omega (arith, m1, m2))
+declares_one (declared b1 i1 l1 m1 e1 k1) (declared b2 i2 l2 m2 e2 k2) = (e1 ∙ sym e2, k1 ∙ sym k2)
 
 plays_one : (rows : List FieldRow) (mark : ℕ) (command : Command) (new new' : List FieldRow) (text text' : List ℕ)
     → PlaysOne rows mark command new [] text → PlaysOne rows mark command new' [] text' → (new ≡ new') × (text ≡ text')

@@ -4,16 +4,17 @@ use Rattle.lat_script.specs.declared.commands.Command.{Command}
 use Rattle.lat_script.specs.declared.commands.Command.TheVariants.{Field}
 use Rattle.lat_script.specs.declared.replies.Reply.{Reply}
 use Rattle.lattice_run.specs.Lattice.{FieldRow, Declares}
-use Rattle.lattice_run.specs.Lattice.Declares.{not_built, named, reducible, declared}
+use Rattle.lattice_run.specs.Lattice.Declares.{malformed, named, reducible, full, declared}
 use Rattle.lattice_run.specs.Transcript.{PlaysOne, Plays}
 
 -- A command adds a field at most.
 pub declares_one : {rows : List FieldRow} {name : List ℕ} {p : ℕ} {f : List ℕ} {reply : Reply} {new : List FieldRow}
     → Declares rows name p f reply new → length new ≤ length rows + 1
-declares_one (not_built h r e) = let l = ap length e in omega arith
+declares_one (malformed x h r e) = let l = ap length e in omega arith
 declares_one (named b n row h g r e) = let l = ap length e in omega arith
 declares_one (reducible b h g l r e) = let l = ap length e in omega arith
-declares_one {rows = rows} {name = name} {p = p} {f = f} (declared b h i r e) =
+declares_one (full b h i m r e) = let l = ap length e in omega arith
+declares_one {rows = rows} {name = name} {p = p} {f = f} (declared b h i m r e) =
     let l = ap length e ∙ length-append rows (record { name = name; characteristic = p; polynomial = f } ∷ []) in omega arith
 
 pub plays_one_bound : (rows : List FieldRow) (mark : ℕ) (command : Command) (new : List FieldRow) (old text : List ℕ)

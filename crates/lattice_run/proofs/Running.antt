@@ -108,10 +108,14 @@ pub words_answers : (words : List (List ℕ)) (input : List ℕ) (r : Result Out
 words_answers words input (Err e) solo h = tt
 words_answers words input (Ok output) solo h = h words solo
 
+-- some list is longer than n
+long_list : (n : ℕ) → (xs : List ℕ) × (n < length xs)
+long_list n = (replicate (n + 1) 0, omega (arith, length-replicate {A = ℕ} (n + 1) 0))
+
 -- the input, where it is too long
 pub long_input : (words : List (List ℕ)) (left left' : Option (List ℕ)) → IsSolo words → TakesFirst left left' (MAX_INPUT + 1)
     → (input : List ℕ) × (MAX_INPUT < length input) × IsInput words input left left'
-long_input words None left' solo h = (replicate (MAX_INPUT + 1) 0, omega (arith, length-replicate {A = ℕ} (MAX_INPUT + 1) 0), tt)
+long_input words None left' solo h = let (input, long) = long_list MAX_INPUT in (input, long, tt)
 long_input words (Some bytes) left' solo h = (bytes, omega (arith, h.0), (refl, (λ other. absurd (other solo)), (λ s. h.1)))
 
 pub too_long_answers : (words : List (List ℕ)) (input : List ℕ) (r : Result Output NoMemory) → IsSolo words → MAX_INPUT < length input

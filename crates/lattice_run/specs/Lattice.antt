@@ -3,17 +3,21 @@
 --     opening                   the prime fields, which every lattice has first
 --     field_named rows name     the number of the field with this name, if there is one
 --     map_count rows            the number of stored maps
---     HasShape f, IsBuilt p f   what can be judged today
+--     IsWellFormed p f          what a field can be declared by, but for irreducibility
+--     IsMalformed p f refusal   why p and f are no such
 --     Declares rows name p f reply new     declaring answers this reply and leaves the fields new
-use Rattle.std.specs.Prelude.{◌≡◌, ℕ, ◌+◌, ◌-◌, ◌^◌, ◌≤◌, ◌<◌, true, false, List, [], ◌∷◌, ◌++◌, map, length, codes, decimal, position, slice_get, slice_index, Option, Some, None, All}
+use Rattle.std.specs.Prelude.{◌≡◌, ℕ, ◌+◌, ◌-◌, ◌≤◌, ◌<◌, true, false, List, [], ◌∷◌, ◌++◌, map, length, codes, decimal, position, slice_get, slice_index, Option, Some, None, All}
 use Rattle.std.specs.Prelude.{bytes_eq}
 use Rattle.std.specs.Ordering.{nat_cmp}
 use Rattle.ff_model.specs.Coefficients.{primes, residues, IsCharacteristic}
 use Rattle.ff_model.specs.Factors.{IsIrreducible, IsLeastFactor}
 use Rattle.ff_model.specs.Values.{degree}
+use Rattle.ff_poly.specs.declared.TheConstants.{MAX_DEGREE}
 use Rattle.lat_script.specs.declared.replies.Reply.{Reply}
 use Rattle.lat_script.specs.declared.replies.Reply.TheVariants.{Declared, Refused}
-use Rattle.lat_script.specs.declared.replies.StepRefusal.TheVariants.{NotBuilt, NameTaken, Reducible}
+use Rattle.lat_script.specs.declared.replies.StepRefusal.{StepRefusal}
+use Rattle.lat_script.specs.declared.replies.StepRefusal.TheVariants.{NotInTable, DegreeOutOfRange, CoefficientTooLarge, NotMonic, NameTaken, Reducible, TooManyFields}
+use Rattle.lattice_run.specs.declared.lattice.TheConstants.{MAX_FIELDS}
 
 pub record FieldRow : Type 0 where
   pub name : List ℕ
@@ -34,18 +38,31 @@ field_named rows name = position (λ row. bytes_eq row.name name) rows
 abbrev pub map_count : List FieldRow → ℕ
 map_count rows = length rows + (length rows - length primes)
 
--- a monic list of degree 2 to 24
-pub record HasShape (f : List ℕ) : Type 0 where
-  pub lowest : 2 ≤ degree f
-  pub highest : degree f ≤ 24
+-- the number of coefficients less one is from 2 to MAX_DEGREE
+abbrev pub IsDegreeInRange : List ℕ → Type 0
+IsDegreeInRange f = (2 ≤ degree f) × (degree f ≤ MAX_DEGREE)
+
+-- the coefficient at this place is the first that isn't below p
+pub record IsFirstTooLarge (p : ℕ) (f : List ℕ) (place : ℕ) : Type 0 where
+  pub within : place < length f
+  pub too_large : p ≤ slice_index f place
+  pub first : (k : ℕ) → k < place → slice_index f k < p
+
+-- A characteristic of the table, and a monic polynomial over it of a degree in range.
+pub record IsWellFormed (p : ℕ) (f : List ℕ) : Type 0 where
+  pub characteristic : IsCharacteristic p
+  pub in_range : IsDegreeInRange f
+  pub coefficients : All (λ a. a < p) f
   pub monic : slice_index f (degree f) ≡ 1
 
--- A characteristic of the table, and a monic polynomial of degree 2 to 24 over it with at most 4,096 residues.
-pub record IsBuilt (p : ℕ) (f : List ℕ) : Type 0 where
-  pub characteristic : IsCharacteristic p
-  pub shape : HasShape f
-  pub coefficients : All (λ a. a < p) f
-  pub few : p ^ degree f ≤ 4096
+-- why p and f are no such, in the order in which it is decided
+pub data IsMalformed (p : ℕ) (f : List ℕ) (refusal : StepRefusal) : Type 0 where
+  not_in_table : (IsCharacteristic p → ⊥) → refusal ≡ NotInTable p → IsMalformed p f refusal
+  degree_out_of_range : IsCharacteristic p → (IsDegreeInRange f → ⊥) → refusal ≡ DegreeOutOfRange (degree f) → IsMalformed p f refusal
+  coefficient_too_large : IsCharacteristic p → IsDegreeInRange f → (place : ℕ) → IsFirstTooLarge p f place
+      → refusal ≡ CoefficientTooLarge place → IsMalformed p f refusal
+  not_monic : IsCharacteristic p → IsDegreeInRange f → All (λ a. a < p) f → (slice_index f (degree f) ≡ 1 → ⊥)
+      → refusal ≡ NotMonic → IsMalformed p f refusal
 
 -- what is answered where field n, this one, has the name already
 pub data Renames (row : FieldRow) (p : ℕ) (f : List ℕ) (n : ℕ) (reply : Reply) : Type 0 where
@@ -54,11 +71,13 @@ pub data Renames (row : FieldRow) (p : ℕ) (f : List ℕ) (n : ℕ) (reply : Re
 
 -- One constructor for each case, in the order in which they are decided.
 pub data Declares (rows : List FieldRow) (name : List ℕ) (p : ℕ) (f : List ℕ) (reply : Reply) (new : List FieldRow) : Type 0 where
-  not_built : (IsBuilt p f → ⊥) → reply ≡ Refused NotBuilt → new ≡ rows → Declares rows name p f reply new
-  named : IsBuilt p f → (n : ℕ) (row : FieldRow) → field_named rows name ≡ Some n → slice_get rows n ≡ Some row
+  malformed : (refusal : StepRefusal) → IsMalformed p f refusal → reply ≡ Refused refusal → new ≡ rows → Declares rows name p f reply new
+  named : IsWellFormed p f → (n : ℕ) (row : FieldRow) → field_named rows name ≡ Some n → slice_get rows n ≡ Some row
       → Renames row p f n reply → new ≡ rows → Declares rows name p f reply new
-  reducible : IsBuilt p f → field_named rows name ≡ None → (g : List ℕ) → IsLeastFactor (residues p) nat_cmp f g
+  reducible : IsWellFormed p f → field_named rows name ≡ None → (g : List ℕ) → IsLeastFactor (residues p) nat_cmp f g
       → reply ≡ Refused (Reducible (record { prime = p; coefficients = g })) → new ≡ rows → Declares rows name p f reply new
-  declared : IsBuilt p f → field_named rows name ≡ None → IsIrreducible (residues p) f
+  full : IsWellFormed p f → field_named rows name ≡ None → IsIrreducible (residues p) f → MAX_FIELDS < length rows + 1
+      → reply ≡ Refused (TooManyFields (length rows) 1) → new ≡ rows → Declares rows name p f reply new
+  declared : IsWellFormed p f → field_named rows name ≡ None → IsIrreducible (residues p) f → length rows + 1 ≤ MAX_FIELDS
       → reply ≡ Declared (length rows) false
       → new ≡ rows ++ record { name = name; characteristic = p; polynomial = f } ∷ [] → Declares rows name p f reply new

@@ -1,14 +1,19 @@
 //! The fields of the lattice, and the declaring of a field.
 
-ghost use Rattle.std.specs.Prelude.{◌≡◌, ◌≢◌, ◌+◌, ◌*◌, ◌-◌, ◌^◌, ◌<◌, ◌≤◌, ◌↔◌, length, IsTrue, IfOk, OnErr, IfSome, IfNone, slice_get, codes, decimal, ◌++◌};
-ghost use Rattle.ff_model.specs.Coefficients.{IsCharacteristic};
-ghost use Rattle.lattice_run.specs.Lattice.{opening, field_named, prime_field, map_count, HasShape, IsBuilt, Renames, Declares};
+ghost use Rattle.std.specs.Prelude.{◌≡◌, ◌≢◌, ◌+◌, ◌*◌, ◌-◌, ◌^◌, ◌<◌, ◌≤◌, ◌↔◌, length, IsTrue, IfOk, OnErr, IfSome, IfNone, IfErr, All, slice_get, codes, decimal, ◌++◌};
+ghost use Rattle.std.specs.Ordering.{nat_cmp};
+ghost use Rattle.ff_model.specs.Coefficients.{IsCharacteristic, residues};
+ghost use Rattle.ff_model.specs.Factors.{IsIrreducible, IsLeastFactor};
+ghost use Rattle.lattice_run.specs.Lattice.{opening, field_named, prime_field, map_count, IsFirstTooLarge, IsWellFormed, IsMalformed, Renames, Declares};
 
+use ff_factor::{Verdict, judge};
 use ff_poly::{MAX_DEGREE, Poly, Prime};
-use ff_trial::{TRIAL_LIMIT, least_factor};
 use lat_script::{Digits, FieldName, NoMemory, Reply, StepRefusal};
 use std::alloc::Global;
 use std::marker::Model;
+
+/// The most fields of a lattice.
+pub const MAX_FIELDS: usize = 200;
 
 /// The characteristics, in the order of the prime fields.
 const CHARACTERISTICS: [u8; 11] = [2, 3, 5, 7, 11, 13, 17, 19, 23, 29, 31];
@@ -77,42 +82,57 @@ fn prime_row(alloc: Global, p: u8) -> Result<Row, NoMemory>
     }
 }
 
-// Whether p^degree is at most TRIAL_LIMIT.
-fn has_few_residues(p: Prime, degree: usize) -> bool
-    ensures { IsTrue result ↔ (p ^ degree ≤ 4096) }
+// The place of the first number that isn't below p.
+fn first_too_large(p: Prime, numbers: &[u8]) -> Option<usize>
+    ensures found { IfSome result (IsFirstTooLarge p numbers.now) }
+    ensures none { IfNone result (All (λ a. a < p) numbers.now) }
 {
-    let base = u32::from(p.number());
-    let mut count = 1u32;
-    for _place in 0..degree {
-        count *= base;
-        if count > TRIAL_LIMIT {
-            return false;
-        }
-    }
-    true
+    let p = p.number();
+    numbers.iter().position(|number| *number >= p)
 }
 
-// Whether the degree is from 2 to 24 and the last coefficient is 1.
-fn has_shape(numbers: &[u8]) -> bool
-    ensures { IsTrue result ↔ HasShape numbers.now }
+// The polynomial that is declared, or the refusal of one that is malformed.
+fn well_formed(p: u32, digits: &Digits) -> Result<Poly, StepRefusal>
+    ensures well_formed { IfOk result (λ f. IsWellFormed p digits.now × (f ≡ record { prime = p; coefficients = digits.now })) }
+    ensures malformed { IfErr result (IsMalformed p digits.now) }
 {
-    numbers.len() >= 3 && numbers.len() <= MAX_DEGREE + 1 && numbers[numbers.len() - 1] == 1
-}
-
-// The polynomial that is declared, where it can be judged.
-fn built(p: u32, digits: &Digits) -> Option<Poly>
-    ensures built { IfSome result (λ f. IsBuilt p digits.now × (f ≡ record { prime = p; coefficients = digits.now })) }
-    ensures not_built { IfNone result (IsBuilt p digits.now → ⊥) }
-{
-    let prime = Prime::of(p)?;
     let numbers = digits.numbers();
-    if !has_shape(numbers) {
-        return None;
+    let Some(prime) = Prime::of(p) else {
+        return Err(StepRefusal::NotInTable(p));
+    };
+    let degree = numbers.len() - 1;
+    if degree < 2 {
+        return Err(StepRefusal::DegreeOutOfRange(degree as u32));
     }
-    if !has_few_residues(prime, numbers.len() - 1) {
-        return None;
+    if degree > MAX_DEGREE {
+        return Err(StepRefusal::DegreeOutOfRange(degree as u32));
     }
-    Poly::of_slice(prime, numbers)
+    if let Some(place) = first_too_large(prime, numbers) {
+        return Err(StepRefusal::CoefficientTooLarge(place as u32));
+    }
+    if numbers[degree] != 1 {
+        return Err(StepRefusal::NotMonic);
+    }
+    match Poly::of_slice(prime, numbers) {
+        Some(polynomial) => Ok(polynomial),
+        None => unreachable!(),
+    }
+}
+
+// The least factor of a polynomial that can be declared; None where it is irreducible.
+fn least_factor(f: &Poly) -> Option<Poly>
+    requires { IsWellFormed f.now.prime f.now.coefficients }
+    ensures irreducible { IfNone result (IsIrreducible (residues f.now.prime) f.now.coefficients) }
+    ensures prime { IfSome result (λ g. g.prime ≡ f.now.prime) }
+    ensures factor { IfSome result (λ g. IsLeastFactor (residues f.now.prime) nat_cmp f.now.coefficients g.coefficients) }
+{
+    match judge(f) {
+        Verdict::Irreducible(_) => None,
+        Verdict::Reducible {
+            factor,
+            cofactor: _,
+        } => Some(factor),
+    }
 }
 
 impl Lattice {
@@ -157,8 +177,9 @@ impl Lattice {
         ensures declared { IfOk result (λ reply. Declares self.old name.now p digits.now reply self.new) }
         ensures memory { OnErr result (self.new ≡ self.old) }
     {
-        let Some(polynomial) = built(p, digits) else {
-            return Ok(Reply::Refused(StepRefusal::NotBuilt));
+        let polynomial = match well_formed(p, digits) {
+            Ok(polynomial) => polynomial,
+            Err(refusal) => return Ok(Reply::Refused(refusal)),
         };
         if let Some(number) = self.field_named(name) {
             return Ok(self.rows[number].named_reply(number as u32, &polynomial));
@@ -167,6 +188,12 @@ impl Lattice {
             return Ok(Reply::Refused(StepRefusal::Reducible { factor }));
         }
         let number = self.rows.len() as u32;
+        if self.rows.len() >= MAX_FIELDS {
+            return Ok(Reply::Refused(StepRefusal::TooManyFields {
+                have: number,
+                need: 1,
+            }));
+        }
         let row = Row {
             name: name.copy(),
             polynomial,

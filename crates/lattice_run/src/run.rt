@@ -15,11 +15,11 @@ ghost use Rattle.lattice_run.specs.Transcript.{IsTranscript};
 
 use crate::play::play;
 use lat_io::{Failed, ReadFault, Sink, Source, read_all, write_all_of};
-use lat_script::{NoMemory, ScriptFault, add_bad_line, add_too_long, add_usage, parse};
+use lat_script::{MAX_SCRIPT, NoMemory, ScriptFault, add_bad_line, add_too_long, add_usage, parse};
 use std::alloc::Global;
 
 /// The most bytes of an input.
-pub const MAX_INPUT: usize = 2048;
+pub const MAX_INPUT: usize = MAX_SCRIPT;
 
 // Whether the words are `solo` alone.
 fn is_solo(words: &[String]) -> bool

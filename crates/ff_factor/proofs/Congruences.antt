@@ -1,0 +1,126 @@
+-- Polynomials with one remainder modulo a monic f, powers of x, and the columns of v -> v^p - v by their places.
+use Rattle.std.proofs.Common.{◌≡◌, ⊎_elim, ℕ, zero, suc, ◌+◌, ◌*◌, ◌<◌, ◌==◌, cond, List, [], map, length, slice_index_or, All, refl, ap, ap₂, sym, ◌∙◌, arith, subst}
+use Rattle.std.proofs.lemmas.Bool.{cases_eq, eq-eqb, ne_eqb}
+use Rattle.std.proofs.lemmas.List.Elements.{All-cons, All-nil}
+use Rattle.ff_model.specs.Coefficients.{Ops, Carrier}
+use Rattle.ff_model.specs.Polynomials.{trim, shift, product, poly_product, poly_difference, poly_power}
+use Rattle.ff_model.specs.Factors.{IsPolynomial, IsMonic, IsDivision}
+use Rattle.ff_model.specs.Fields.{IsField}
+use Rattle.ff_model.specs.Values.{degree, reduced}
+use Rattle.ff_model.specs.Matrices.{IsColumn}
+use Rattle.ff_rings.specs.Laws.{IsPropositional}
+use Rattle.ff_rings.proofs.Monomials.{monomial, monomial_at, monomial_elsewhere}
+use Rattle.ff_rings.proofs.Homomorphisms
+use Rattle.ff_rings.proofs.Elements.{value, element_ops, value_homomorphism, on_valid, element_laws}
+use Rattle.ff_rings.proofs.Carriers
+use Rattle.ff_rings.proofs.Divisors.{Polynomial, polynomial_ops, same_polynomial}
+use Rattle.ff_divisors.proofs.Euclidean
+use Rattle.ff_divisors.proofs.Fields.{polynomials_euclidean}
+use Rattle.ff_fields.proofs.Powers
+use Rattle.ff_fields.proofs.FermatProduct.{leading_monomial}
+use Rattle.ff_fields.proofs.Modulo
+use Rattle.ff_fields.proofs.Modulo.{Same}
+use Rattle.ff_fields.proofs.Classes.{class_of}
+use Rattle.ff_fields.proofs.Remainders.{reduced_equal, same_from_reduced, reduced_from_same}
+use Rattle.ff_factor.specs.Certificates.{frobenius_column}
+use Rattle.ff_factor.proofs.FrobeniusColumns.{variable, variable_product, variable_polynomial, variable_of, power_is}
+
+module _ {A : Type 0} {c : Carrier A} (P : IsPropositional c) (F : IsField c) where
+  abbrev Q : Ops (Polynomial c)
+  Q = polynomial_ops P F.ring
+
+  abbrev U : Euclidean.EuclideanLaws (polynomial_ops P F.ring) (λ x. length x.0) (λ x. IsMonic c x.0)
+  U = polynomials_euclidean P F
+
+  -- ---- powers of x
+  variable_on_valid : (xs : List A) → All c.Valid xs → product c.ops (variable c.ops) xs ≡ shift c.ops xs
+  variable_on_valid xs v = on_valid c (λ xs. product c.ops (variable c.ops) xs ≡ shift c.ops xs)
+      (λ X. let H = value_homomorphism F.ring in
+      let E = element_ops F.ring in
+      sym (Homomorphisms.product-map H (variable E) X) ∙ ap (map (value c)) (variable_product (element_laws P F.ring) X)
+      ∙ Homomorphisms.shift-map H X) xs v
+
+  monomial_valid : (k : ℕ) → All c.Valid (monomial c.ops c.ops.one k)
+  monomial_valid zero = All-cons c.Valid c.ops.one [] F.ring.one_valid (All-nil c.Valid)
+  monomial_valid (suc k) = All-cons c.Valid c.ops.zero (monomial c.ops c.ops.one k) F.ring.zero_valid (monomial_valid k)
+
+  monomial_polynomial : (k : ℕ) → IsPolynomial c (monomial c.ops c.ops.one k)
+  monomial_polynomial k = (
+    monomial_valid k,
+    Carriers.trimmed_from_leading P F.ring (monomial c.ops c.ops.one k) (monomial_valid k)
+        (λ z. F.one_not_zero (sym (leading_monomial c.ops c.ops.one k) ∙ z)),
+  )
+
+  shift_monomial : (k : ℕ) → shift c.ops (monomial c.ops c.ops.one k) ≡ monomial c.ops c.ops.one (suc k)
+  shift_monomial zero = refl
+  shift_monomial (suc k) = refl
+
+  pub power_of_variable : (k : ℕ) → poly_power c.ops (variable c.ops) k ≡ monomial c.ops c.ops.one k
+  power_of_variable zero = (monomial_polynomial 0).1
+  power_of_variable (suc k) =
+      ap (λ w. poly_product c.ops w (variable c.ops)) (power_of_variable k)
+      ∙ Carriers.poly_product_comm P F.ring (monomial c.ops c.ops.one k) (variable c.ops) (monomial_valid k) (variable_polynomial P F).0
+      ∙ ap (trim c.ops) (variable_on_valid (monomial c.ops c.ops.one k) (monomial_valid k) ∙ shift_monomial k)
+      ∙ (monomial_polynomial (suc k)).1
+
+  power_polynomial : (k : ℕ) → IsPolynomial c (poly_power c.ops (variable c.ops) k)
+  power_polynomial k = Carriers.poly_power_polynomial P F.ring (variable c.ops) k (variable_polynomial P F)
+
+  -- the places of x^k
+  pub power_of_variable_at : (k i : ℕ) → slice_index_or (poly_power c.ops (variable c.ops) k) i c.ops.zero ≡ cond (i == k) c.ops.one c.ops.zero
+  power_of_variable_at k i =
+      ap (λ xs. slice_index_or xs i c.ops.zero) (power_of_variable k)
+      ∙ ⊎_elim
+      (λ e. ap (λ j. slice_index_or (monomial c.ops c.ops.one k) j c.ops.zero) e ∙ monomial_at c.ops c.ops.one k
+      ∙ sym (ap (λ b. cond b c.ops.one c.ops.zero) (eq-eqb i k e)))
+      (λ n. monomial_elsewhere c.ops c.ops.one k i n ∙ sym (ap (λ b. cond b c.ops.one c.ops.zero) (ne_eqb i k n)))
+      (cases_eq i k)
+
+  module _ (f : Polynomial c) (not_constant : 1 < length f.0) (monic : IsMonic c f.0) where
+    abbrev rest : List A → List A
+    rest g = reduced c.ops f.0 g
+
+    -- **a remainder has the same remainder**
+    pub reduced_remainder : (g q r : List A) → IsDivision c g f.0 q r → rest r ≡ rest g
+    reduced_remainder g q r d =
+        let v : IsPolynomial c g =
+        subst (IsPolynomial c) d.identity (Carriers.poly_sum_polynomial P F.ring (poly_product c.ops q f.0) r
+        (Carriers.poly_product_polynomial P F.ring q f.0 d.quotient f.1) d.remainder) in
+        reduced_equal P F f not_constant monic (r, d.remainder) (g, v)
+        (Modulo.same_back U.ring (record { quotient = (q, d.quotient); identity = same_polynomial P F.ring _ _ (sym d.identity) }))
+
+    -- **products of what has one remainder**
+    pub reduced_products : (a b g h : List A) → IsPolynomial c a → IsPolynomial c b → IsPolynomial c g → IsPolynomial c h → rest a ≡ rest g → rest b ≡ rest h
+        → rest (poly_product c.ops a b) ≡ rest (poly_product c.ops g h)
+    reduced_products a b g h va vb vg vh e k =
+        reduced_equal P F f not_constant monic (Q.mul (a, va) (b, vb)) (Q.mul (g, vg) (h, vh))
+        (Modulo.same_product U.ring (same_from_reduced P F f not_constant monic (a, va) (g, vg) e) (same_from_reduced P F f not_constant monic (b, vb) (h, vh) k))
+
+    -- one more power x^p
+    pub next_power : (p k : ℕ) (g h : List A) → IsPolynomial c g → IsPolynomial c h → rest g ≡ rest (poly_power c.ops (variable c.ops) (k * p))
+        → rest h ≡ rest (poly_power c.ops (variable c.ops) p) → rest (poly_product c.ops g h) ≡ rest (poly_power c.ops (variable c.ops) (suc k * p))
+    next_power p k g h vg vh e d =
+        reduced_products g h (poly_power c.ops (variable c.ops) (k * p)) (poly_power c.ops (variable c.ops) p) vg vh (power_polynomial (k * p)) (power_polynomial p) e d
+        ∙ ap rest (sym (ap₂ (poly_product c.ops) (power_is P F (variable_of P F) (k * p)) (power_is P F (variable_of P F) p))
+        ∙ sym (ap (λ g. g.0) (Powers.power_add U.ring (variable_of P F) (k * p) p))
+        ∙ power_is P F (variable_of P F) (k * p + p) ∙ ap (poly_power c.ops (variable c.ops)) (let s : k * p + p ≡ suc k * p = omega arith in s))
+
+    -- **a column of v^p - v by its places**
+    pub column_from_places : (p k : ℕ) (g x : List A) → IsPolynomial c g → IsColumn c (degree f.0) x → rest g ≡ rest (poly_power c.ops (variable c.ops) (k * p))
+        → ((i : ℕ) → slice_index_or x i c.ops.zero ≡ c.ops.add (slice_index_or g i c.ops.zero) (c.ops.neg (cond (i == k) c.ops.one c.ops.zero)))
+        → x ≡ frobenius_column c.ops p f.0 k
+    column_from_places p k g x vg v e at =
+        sym (reduced_from_same P F f not_constant monic (Q.add (power_of (k * p)) (Q.neg (power_of k))) x (v.1, v.0)
+        (Modulo.same_trans U.ring (Modulo.same_from_equal U.ring same)
+        (Modulo.same_sum U.ring (same_from_reduced P F f not_constant monic (g, vg) (power_of (k * p)) e) (Modulo.same_itself U.ring f (Q.neg (power_of k))))))
+      where
+        power_of : ℕ → Polynomial c
+        power_of n = (poly_power c.ops (variable c.ops) n, power_polynomial n)
+
+        same : class_of P F.ring x v.1 ≡ Q.add (g, vg) (Q.neg (power_of k))
+        same = same_polynomial P F.ring (class_of P F.ring x v.1) (Q.add (g, vg) (Q.neg (power_of k)))
+            (Carriers.same_from_places P F.ring (trim c.ops x) (poly_difference c.ops g (poly_power c.ops (variable c.ops) k))
+            (Carriers.trim_polynomial P F.ring x v.1) (Q.add (g, vg) (Q.neg (power_of k))).1
+            (λ i. Carriers.trim_at P F.ring x i v.1 ∙ at i
+            ∙ ap (λ w. c.ops.add (slice_index_or g i c.ops.zero) (c.ops.neg w)) (sym (power_of_variable_at k i))
+            ∙ sym (Carriers.poly_difference_at P F.ring g (poly_power c.ops (variable c.ops) k) i vg.0 (power_polynomial k).0)))

@@ -1,0 +1,45 @@
+-- Fixed polynomials by the matrix of v -> v^p - v: v is fixed modulo f exactly if its coefficients 1, 2, .. are sent to zero.
+use Rattle.std.proofs.Common.{◌≡◌, ℕ, ◌<◌, List, ◌∷◌, map, length, All, ap, sym, ◌∙◌, subst}
+use Rattle.std.specs.List.{range_with_len}
+use Rattle.ff_model.specs.Coefficients.{Ops, Carrier, times, power}
+use Rattle.ff_model.specs.Polynomials.{trim, poly_power, poly_difference}
+use Rattle.ff_model.specs.Factors.{IsMonic, Divides}
+use Rattle.ff_model.specs.Fields.{IsField}
+use Rattle.ff_model.specs.Values.{degree}
+use Rattle.ff_model.specs.Matrices.{combination, zero_column}
+use Rattle.ff_rings.specs.Laws.{IsPropositional}
+use Rattle.ff_rings.proofs.Elements.{Element, element_ops}
+use Rattle.ff_rings.proofs.Divisors.{Polynomial, polynomial_ops}
+use Rattle.ff_fields.specs.Fixed.{IsFixed}
+use Rattle.ff_fields.proofs.Frobenius.{IsPrime}
+use Rattle.ff_fields.proofs.Derivations.{polynomial_characteristic}
+use Rattle.ff_fields.proofs.Classes.{class_of}
+use Rattle.ff_fields.proofs.Remainders.{divides_iff_reduced}
+use Rattle.ff_factor.specs.Certificates.{frobenius_column}
+use Rattle.ff_factor.proofs.FrobeniusColumns
+
+module _ {A : Type 0} {c : Carrier A} (P : IsPropositional c) (F : IsField c) (p : ℕ) (prime : IsPrime p)
+    (characteristic : times (element_ops F.ring) p (element_ops F.ring).one ≡ (element_ops F.ring).zero)
+    (fixed : (a : Element c) → power (element_ops F.ring) a p ≡ a)
+    (f : Polynomial c) (not_constant : 1 < length f.0) (monic : IsMonic c f.0) where
+  abbrev Q : Ops (Polynomial c)
+  Q = polynomial_ops P F.ring
+
+  module _ (a : A) (xs : List A) (v : All c.Valid (a ∷ xs)) where
+    abbrev sent : List A
+    sent = combination c.ops (degree f.0) (map (frobenius_column c.ops p f.0) (range_with_len 1 (length xs))) xs
+
+    abbrev gap : Polynomial c
+    gap = Q.add (power Q (class_of P F.ring (a ∷ xs) v) p) (Q.neg (class_of P F.ring (a ∷ xs) v))
+
+    gap_is : gap.0 ≡ poly_difference c.ops (poly_power c.ops (trim c.ops (a ∷ xs)) p) (trim c.ops (a ∷ xs))
+    gap_is = ap (λ w. poly_difference c.ops w (trim c.ops (a ∷ xs))) (FrobeniusColumns.power_is P F (class_of P F.ring (a ∷ xs) v) p)
+
+    pub fixed_from_combination : sent ≡ zero_column c.ops (degree f.0) → IsFixed c p f.0 (trim c.ops (a ∷ xs))
+    fixed_from_combination e = subst (Divides c f.0) gap_is ((divides_iff_reduced P F f not_constant monic gap).1
+        (sym (FrobeniusColumns.columns_combination P F p f not_constant monic prime (polynomial_characteristic P F.ring p prime characteristic) fixed a xs v) ∙ e))
+
+    pub combination_from_fixed : IsFixed c p f.0 (trim c.ops (a ∷ xs)) → sent ≡ zero_column c.ops (degree f.0)
+    combination_from_fixed h =
+        FrobeniusColumns.columns_combination P F p f not_constant monic prime (polynomial_characteristic P F.ring p prime characteristic) fixed a xs v
+        ∙ (divides_iff_reduced P F f not_constant monic gap).0 (subst (Divides c f.0) (sym gap_is) h)

@@ -1,0 +1,14 @@
+pub mod Compositions
+pub mod FrobeniusColumns
+pub mod Insertion
+pub mod Factoring
+pub mod Collecting
+pub mod PowerRoots
+pub mod Criterion
+pub mod Kernels
+pub mod Certifying
+pub mod Congruences
+pub mod Steps
+pub mod PowersOfVariable
+pub mod AtResidues
+pub mod Identities

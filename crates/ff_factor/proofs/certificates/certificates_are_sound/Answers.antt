@@ -1,0 +1,5 @@
+use Rattle.ff_factor.proofs.AtResidues.{certified_irreducible}
+use Rattle.ff_factor.proofs.certificates.certificates_are_sound.Goals as goal
+
+pub returns : goal.returns
+returns c = certified_irreducible

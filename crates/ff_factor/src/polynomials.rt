@@ -1,0 +1,102 @@
+//! Polynomials made from residues.
+ghost use Rattle.std.specs.Prelude.{◌≡◌, ℕ, ◌+◌, ◌*◌, ◌<◌, ◌≤◌, [], ◌∷◌, length, All, slice_index};
+ghost use Rattle.ff_model.specs.Coefficients.{mod_ops, residues};
+ghost use Rattle.ff_model.specs.Polynomials.{trim, poly_power, poly_product};
+ghost use Rattle.ff_model.specs.Factors.{IsMonic};
+ghost use Rattle.ff_model.specs.Values.{reduced};
+ghost use Rattle.ff_poly.specs.Polynomial.{IsPoly};
+
+use arrayvec::ArrayVec;
+use ff_poly::{MAX_DEGREE, MAX_POLY, Poly, Prime};
+
+/// The polynomial with these coefficients, lowest first; zeros at the end are dropped.
+pub(crate) fn poly_of(p: Prime, c: &[u8]) -> Poly
+    requires room { length c.now ≤ MAX_POLY }
+    requires residues { All (λ x. x < p) c.now }
+    ensures prime { result.prime ≡ p }
+    ensures coefficients { result.coefficients ≡ trim (mod_ops p) c.now }
+{
+    match Poly::of_slice(p, c) {
+        Some(f) => f,
+        None => unreachable!(),
+    }
+}
+
+/// The polynomial `x`.
+pub(crate) fn variable(p: Prime) -> Poly
+    ensures prime { result.prime ≡ p }
+    ensures coefficients { result.coefficients ≡ 0 ∷ 1 ∷ [] }
+{
+    let _number = p.number();
+    poly_of(p, &[0, 1])
+}
+
+/// The constant polynomial `c`.
+pub(crate) fn constant(p: Prime, c: u8) -> Poly
+    requires { c < p }
+    ensures prime { result.prime ≡ p }
+    ensures coefficients { result.coefficients ≡ trim (mod_ops p) (c ∷ []) }
+{
+    poly_of(p, &[c])
+}
+
+/// The polynomial with the constant coefficient 0 and then these coefficients.
+pub(crate) fn without_constant(p: Prime, c: &[u8]) -> Poly
+    requires room { length c.now < MAX_POLY }
+    requires residues { All (λ x. x < p) c.now }
+    ensures prime { result.prime ≡ p }
+    ensures coefficients { result.coefficients ≡ trim (mod_ops p) (0 ∷ c.now) }
+{
+    let _number = p.number();
+    let numbers = after_zero(c);
+    poly_of(p, numbers.as_slice())
+}
+
+// The number 0 and then these numbers.
+fn after_zero(c: &[u8]) -> ArrayVec<u8, MAX_POLY>
+    requires { length c.now < MAX_POLY }
+    ensures { result.items ≡ 0 ∷ c.now }
+{
+    let mut numbers = ArrayVec::new();
+    numbers.push(0);
+    match numbers.try_extend_from_slice(c) {
+        Ok(()) => numbers,
+        Err(_) => unreachable!(),
+    }
+}
+
+/// The numbers at 0, `step`, `2 * step`, and so on.
+pub(crate) fn every(c: &[u8], step: usize) -> ArrayVec<u8, MAX_POLY>
+    requires room { length c.now ≤ MAX_POLY }
+    requires step { (0 < step) × (step < 32) }
+    ensures room { length result.items ≤ MAX_POLY }
+    ensures places { (k : ℕ) → slice_index result.items k ≡ slice_index c.now (k * step) }
+{
+    let mut numbers = ArrayVec::new();
+    let mut at = 0;
+    while at < c.len() {
+        numbers.push(c[at]);
+        at += step;
+    }
+    numbers
+}
+
+/// The product modulo the monic `f`.
+pub(crate) fn product_modulo(a: &Poly, b: &Poly, f: &Poly) -> Poly
+    requires primes { (a.now.prime ≡ f.now.prime) × (b.now.prime ≡ f.now.prime) }
+    requires monic { IsMonic (residues f.now.prime) f.now.coefficients }
+    requires not_constant { 1 < length f.now.coefficients }
+    requires degree { length f.now.coefficients ≤ MAX_DEGREE + 1 }
+    requires short { (length a.now.coefficients ≤ MAX_DEGREE) × (length b.now.coefficients ≤ MAX_DEGREE) }
+    ensures whole { IsPoly a.now × IsPoly b.now }
+    ensures prime { result.prime ≡ f.now.prime }
+    ensures shorter { length result.coefficients < length f.now.coefficients }
+    ensures product { let o = mod_ops f.now.prime in
+        reduced o f.now.coefficients result.coefficients ≡ reduced o f.now.coefficients (poly_product o a.now.coefficients b.now.coefficients) }
+{
+    let _prime = f.prime();
+    let _first = a.prime();
+    let _second = b.prime();
+    let (_, rest) = a.mul(b).divrem(f);
+    rest
+}
