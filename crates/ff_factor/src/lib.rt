@@ -9,6 +9,8 @@ mod columns;
 mod factorization;
 mod polynomials;
 mod splitting;
+#[cfg(test)]
+mod tests;
 mod verdicts;
 
 pub use certificates::{Cert, certificates_are_sound, check};

@@ -139,3 +139,7 @@ number_of-ge p (suc n) (x ∷ ys) positive poly big =
 
 pub below_power : (p a m n : ℕ) → 0 < p → a < p ^ m → m ≤ n → a < p ^ n
 below_power p a m n positive h l = let q : p ^ m ≤ p ^ n = pow-le-pow_right positive l in omega arith
+
+-- once a power is above the limit, so are the later ones
+pub power_above : (p n m limit : ℕ) → 0 < p → limit < p ^ n → n ≤ m → p ^ m ≤ limit → ⊥
+power_above p n m limit positive h l k = let q : p ^ n ≤ p ^ m = pow-le-pow_right positive l in absurd (omega arith)

@@ -89,6 +89,28 @@ fn power_of(p: Prime, degree: usize) -> u32
     power
 }
 
+// Whether p^degree is at most TRIAL_LIMIT.
+fn has_few_residues(p: Prime, degree: usize) -> bool
+    ensures { IsTrue result ↔ (p ^ degree ≤ TRIAL_LIMIT) }
+{
+    let base = u32::from(p.number());
+    let mut count = 1u32;
+    for _place in 0..degree {
+        count *= base;
+        if count > TRIAL_LIMIT {
+            return false;
+        }
+    }
+    true
+}
+
+/// Whether a polynomial has at most `TRIAL_LIMIT` residues, so that its factors can be tried.
+pub fn can_try(f: &Poly) -> bool
+    ensures { IsTrue result ↔ (f.now.prime ^ degree f.now.coefficients ≤ TRIAL_LIMIT) }
+{
+    has_few_residues(f.prime(), f.coefficients().len().saturating_sub(1))
+}
+
 /// The least factor of a monic polynomial of degree 1 or more with at most `TRIAL_LIMIT` residues; `None` where it is
 /// irreducible.
 ///

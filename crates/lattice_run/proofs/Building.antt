@@ -1,9 +1,9 @@
 -- What a field can be declared by.
-use Rattle.std.proofs.Common.{◌≡◌, ℕ, List, length, arith, sym, ◌∙◌, ap₂, subst, Option, Some, None, refl, slice_index_or, ◌<◌, ◌≤◌}
+use Rattle.std.proofs.Common.{◌≡◌, ℕ, List, arith, ◌∙◌, ap₂, subst, refl, ◌<◌}
 use Rattle.std.specs.Prelude.{All, slice_index}
 use Rattle.ff_model.specs.Coefficients.{mod_ops, IsCharacteristic}
 use Rattle.ff_model.specs.Polynomials.{trim, leading}
-use Rattle.ff_model.specs.Factors.{IsPolynomial, IsMonic}
+use Rattle.ff_model.specs.Factors.{IsMonic}
 use Rattle.ff_model.specs.Coefficients.{residues}
 use Rattle.ff_model.specs.Values.{degree}
 use Rattle.ff_rings.proofs.Trims.{leading_at, trimmed_from_leading}
