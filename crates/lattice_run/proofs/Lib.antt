@@ -1,6 +1,7 @@
 pub mod PrimeNames
 pub mod Building
 pub mod Declaring
+pub mod Lattices
 pub mod Playing
 pub mod Running
 pub mod Statuses

@@ -1,16 +1,19 @@
 -- The lattice: its list of fields, and what declaring a field answers and adds.
 --     FieldRow                  a field's name, characteristic and polynomial
+--     IsField row               the polynomial is monic and irreducible over the residues modulo the characteristic
+--     IsLattice rows            the prime fields first, then other fields, at most MAX_FIELDS, no two of one name
 --     opening                   the prime fields, which every lattice has first
 --     field_named rows name     the number of the field with this name, if there is one
 --     map_count rows            the number of stored maps
 --     IsWellFormed p f          what a field can be declared by, but for irreducibility
 --     IsMalformed p f refusal   why p and f are no such
 --     Declares rows name p f reply new     declaring answers this reply and leaves the fields new
-use Rattle.std.specs.Prelude.{◌≡◌, ℕ, ◌+◌, ◌-◌, ◌≤◌, ◌<◌, true, false, List, [], ◌∷◌, ◌++◌, map, length, codes, decimal, position, slice_get, slice_index, Option, Some, None, All}
+use Rattle.std.specs.Prelude.{◌≡◌, ◌≢◌, ℕ, ◌+◌, ◌-◌, ◌≤◌, ◌<◌, true, false, List, [], ◌∷◌, ◌++◌, map, length, take, codes, decimal, position, slice_get, slice_index, Option, Some, None, All}
+use Rattle.std.specs.List.{AllPairs}
 use Rattle.std.specs.Prelude.{bytes_eq}
 use Rattle.std.specs.Ordering.{nat_cmp}
 use Rattle.ff_model.specs.Coefficients.{primes, residues, IsCharacteristic}
-use Rattle.ff_model.specs.Factors.{IsIrreducible, IsLeastFactor}
+use Rattle.ff_model.specs.Factors.{IsMonic, IsIrreducible, IsLeastFactor}
 use Rattle.ff_model.specs.Values.{degree}
 use Rattle.ff_poly.specs.declared.TheConstants.{MAX_DEGREE}
 use Rattle.lat_script.specs.declared.replies.Reply.{Reply}
@@ -33,6 +36,18 @@ opening = map prime_field primes
 
 abbrev pub field_named : List FieldRow → List ℕ → Option ℕ
 field_named rows name = position (λ row. bytes_eq row.name name) rows
+
+pub record IsField (row : FieldRow) : Type 0 where
+  pub characteristic : IsCharacteristic row.characteristic
+  pub monic : IsMonic (residues row.characteristic) row.polynomial
+  pub irreducible : IsIrreducible (residues row.characteristic) row.polynomial
+  pub degree : degree row.polynomial ≤ MAX_DEGREE
+
+pub record IsLattice (rows : List FieldRow) : Type 0 where
+  pub prime_fields : take (length primes) rows ≡ opening
+  pub fields : All IsField rows
+  pub names : AllPairs (λ row other. row.name ≢ other.name) rows
+  pub room : length rows ≤ MAX_FIELDS
 
 -- Each field has its identity, and each declared one the map of its prime field.
 abbrev pub map_count : List FieldRow → ℕ

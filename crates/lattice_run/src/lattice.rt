@@ -1,22 +1,20 @@
 //! The fields of the lattice, and the declaring of a field.
 
-ghost use Rattle.std.specs.Prelude.{◌≡◌, ◌≢◌, ◌+◌, ◌*◌, ◌-◌, ◌^◌, ◌<◌, ◌≤◌, ◌↔◌, length, IsTrue, IfOk, OnErr, IfSome, IfNone, IfErr, All, slice_get, codes, decimal, ◌++◌};
+ghost use Rattle.std.specs.Prelude.{◌≡◌, ◌≢◌, ℕ, List, ◌+◌, ◌*◌, ◌-◌, ◌^◌, ◌<◌, ◌≤◌, ◌↔◌, length, IsTrue, IfOk, OnErr, IfSome, IfNone, IfErr, All, slice_get, codes, decimal, ◌++◌};
 ghost use Rattle.std.specs.Ordering.{nat_cmp};
 ghost use Rattle.ff_model.specs.Coefficients.{IsCharacteristic, residues};
 ghost use Rattle.ff_model.specs.Factors.{IsIrreducible, IsLeastFactor};
-ghost use Rattle.lattice_run.specs.Lattice.{opening, field_named, prime_field, map_count, IsFirstTooLarge, IsWellFormed, IsMalformed, Renames, Declares};
+ghost use Rattle.lat_script.specs.declared.replies.Reply.{Reply};
+ghost use Rattle.lattice_run.specs.Lattice.{opening, field_named, prime_field, map_count, FieldRow, IsLattice, IsFirstTooLarge, IsWellFormed, IsMalformed, Renames, Declares};
 
 use ff_factor::{Verdict, judge};
-use ff_poly::{MAX_DEGREE, Poly, Prime};
+use ff_poly::{CHARACTERISTICS, MAX_DEGREE, Poly, Prime};
 use lat_script::{Digits, FieldName, NoMemory, Reply, StepRefusal};
 use std::alloc::Global;
 use std::marker::Model;
 
 /// The most fields of a lattice.
 pub const MAX_FIELDS: usize = 200;
-
-/// The characteristics, in the order of the prime fields.
-const CHARACTERISTICS: [u8; 11] = [2, 3, 5, 7, 11, 13, 17, 19, 23, 29, 31];
 
 /// A field of the lattice: its name and its polynomial.
 #[derive(Drop)]
@@ -51,7 +49,7 @@ impl Row {
     }
 }
 
-/// The fields of the lattice, by their numbers.
+/// The fields of the lattice, by their numbers: the prime fields first, no two of one name, at most `MAX_FIELDS`.
 #[derive(Drop)]
 pub struct Lattice {
     rows: Vec<Row>,
@@ -59,19 +57,28 @@ pub struct Lattice {
 
 impl Model for Lattice {
     ghost use Rattle.std.specs.Prelude.{List};
-    ghost use Rattle.lattice_run.specs.Lattice.{FieldRow};
+    ghost use Rattle.lattice_run.specs.Lattice.{FieldRow, IsLattice};
 
     ghost Value = { List FieldRow };
 
     ghost view = { λ lattice. lattice.rows.items };
+
+    ghost invariant = { λ lattice. IsLattice lattice.rows.items };
 }
 
+/// Every lattice of a run is one of fields: the prime fields are one, and declaring keeps it so.
+pub fn lattices_hold_fields()
+    ensures opening { IsLattice opening }
+    ensures declared { (rows new : List FieldRow) (name : List ℕ) (p : ℕ) (f : List ℕ) (reply : Reply) → IsLattice rows
+        → Declares rows name p f reply new → IsLattice new }
+{}
+
 // The field of p elements.
-fn prime_row(alloc: Global, p: u8) -> Result<Row, NoMemory>
+fn prime_row(alloc: Global, p: u32) -> Result<Row, NoMemory>
     requires { IsCharacteristic p }
     ensures { IfOk result (λ row. row ≡ prime_field p) }
 {
-    let prime = Prime::of(u32::from(p)).unwrap();
+    let prime = Prime::of(p).unwrap();
     let polynomial = Poly::of_slice(prime, &[0, 1]).unwrap();
     match format!(in alloc; "F{p}") {
         Ok(text) => Ok(Row {
@@ -158,7 +165,6 @@ impl Lattice {
 
     /// The number of stored maps.
     pub fn maps(&self) -> usize
-        requires { length self.now < 2 ^ 32 }
         ensures { result ≡ map_count self.now }
     {
         self.rows.len() + self.rows.len().saturating_sub(CHARACTERISTICS.len())
@@ -173,7 +179,6 @@ impl Lattice {
 
     /// Declares a field of this characteristic and polynomial under this name.
     pub fn declare(&mut self, name: &FieldName, p: u32, digits: &Digits) -> Result<Reply, NoMemory>
-        requires { length self.old < 2 ^ 32 }
         ensures declared { IfOk result (λ reply. Declares self.old name.now p digits.now reply self.new) }
         ensures memory { OnErr result (self.new ≡ self.old) }
     {

@@ -7,4 +7,5 @@ mod run;
 #[cfg(test)]
 mod tests;
 
+pub use lattice::lattices_hold_fields;
 pub use run::{MAX_INPUT, one_answer, one_transcript, run_plain};

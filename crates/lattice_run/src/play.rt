@@ -16,7 +16,6 @@ fn play_command(
     mark: u32,
     out: &mut Vec<u8>,
 ) -> Result<(), NoMemory>
-    requires { length lattice.old < 2 ^ 32 }
     ensures { OnOk result (PlaysOne lattice.old mark command.now lattice.new out.old.items out.new.items) }
 {
     match command {
