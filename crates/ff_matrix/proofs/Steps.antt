@@ -2,16 +2,17 @@
 use Rattle.std.proofs.Common.{◌≡◌, ◌≢◌, ℕ, ◌+◌, ◌*◌, ◌%◌, ◌<◌, ◌≤◌, List, [], ◌∷◌, ◌++◌, length, replicate, get_or, set, All, refl, ap, ap₂, sym, ◌∙◌, subst, ⊎_elim, arith}
 use Rattle.std.specs.List.{swap}
 use Rattle.std.proofs.lemmas.List.{get_or_past, get_or-replicate, length-replicate, length-set, get_or-set_same, get_or-set_other}
-use Rattle.std.proofs.lemmas.Bool.{cases_lt}
+use Rattle.std.proofs.lemmas.Bool.{cases_eq, cases_lt}
 use Rattle.std.proofs.lemmas.List.Elements.{All-from_get_or, All-set}
 use Rattle.std.proofs.lemmas.List.Edits.{length-swap}
 use native.Mathlib.Nat.{mul_comm}
+use Rattle.std.proofs.Math.Nat.{mod-eq_of_lt, zero-mul, zero-mod, zero-add}
 use Rattle.ff_model.specs.Coefficients.{mod_ops, residues}
 use Rattle.ff_model.specs.Polynomials.{sum, scale}
 use Rattle.ff_model.specs.Matrices.{IsColumn}
 use Rattle.ff_rings.proofs.Residues.{residues_ring}
 use Rattle.ff_rings.proofs.ResidueFields.{residues_propositional}
-use Rattle.ff_linear.proofs.Columns.{length_scaled}
+use Rattle.ff_linear.proofs.Columns.{length_scaled, sum_scale_by_places}
 use Rattle.ff_linear.proofs.RowOperations.{swapped, swapped_first, swapped_below}
 use Rattle.ff_linear.proofs.Elimination.{IsPivotStep, eliminated_start, eliminated_with_pivot, eliminated_without_pivot, swap_at}
 use Rattle.ff_matrix.specs.declared.TheConstants.{MAX_WIDTH}
@@ -22,6 +23,23 @@ pub record AreDone (p : ℕ) (done : ℕ → ℕ) (xs ys : List ℕ) (i : ℕ) :
   pub residues : All (λ x. x < p) ys
   pub before : (k : ℕ) → k < i → get_or ys k 0 ≡ done k
   pub after : (k : ℕ) → i ≤ k → get_or ys k 0 ≡ get_or xs k 0
+
+-- one more place is done
+pub done_more : (p i x : ℕ) (done : ℕ → ℕ) (xs ys : List ℕ) → i < length ys → x ≡ done i → x < p → AreDone p done xs ys i → AreDone p done xs (set ys i x) (i + 1)
+done_more p i x done xs ys l e below h = record {
+  residues = All-set (λ y. y < p) ys i x below h.residues;
+  before = λ k lk. ⊎_elim (λ q. ap (λ j. get_or (set ys i x) j 0) q ∙ get_or-set_same ys i x 0 l ∙ e ∙ ap done (sym q))
+      (λ d. get_or-set_other ys i k x 0 d ∙ h.before k (omega arith)) (cases_eq k i);
+  after = λ k lk. get_or-set_other ys i k x 0 (omega arith) ∙ h.after k (omega arith);
+}
+
+-- zero times the source changes nothing
+pub added_nothing : (p a : ℕ) (row source : List ℕ) → a ≡ 0 → length row ≡ length source → All (λ x. x < p) row
+    → row ≡ sum (mod_ops p) (scale (mod_ops p) a source) row
+added_nothing p a row source zero_factor same v = sum_scale_by_places (mod_ops p) a row row source refl (sym same)
+    (λ k l. sym (ap (λ b. (b * get_or source k 0 % p + get_or row k 0) % p) zero_factor
+    ∙ ap (λ b. (b % p + get_or row k 0) % p) (zero-mul (get_or source k 0)) ∙ ap (λ b. (b + get_or row k 0) % p) (zero-mod p)
+    ∙ ap (λ b. b % p) (zero-add (get_or row k 0)) ∙ mod-eq_of_lt (v k 0 l)))
 
 -- the rows below i are cleared in column m by the source, which is row r, and the others are those of rows
 pub record AreClearedBelow (p m r : ℕ) (source : List ℕ) (rows new : List (List ℕ)) (i : ℕ) : Type 0 where

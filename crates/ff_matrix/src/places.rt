@@ -1,10 +1,16 @@
 //! Operations on the places of a column or a row.
-ghost use Rattle.std.specs.Prelude.{◌≡◌, ℕ, ◌<◌, ◌≤◌, length, replicate, All};
+ghost use Rattle.std.specs.Prelude.{◌≡◌, ℕ, ◌+◌, ◌/◌, ◌%◌, ◌<◌, ◌≤◌, length, replicate, All};
 ghost use Rattle.ff_model.specs.Coefficients.{mod_ops};
 ghost use Rattle.ff_model.specs.Polynomials.{sum, scale};
 
 use arrayvec::ArrayVec;
 use ff_poly::{MAX_DEGREE, Prime};
+
+// The numbers that `remainder` takes are below this.
+const MAX_SUM: u16 = 1024;
+
+// What a quotient by the reciprocal of a prime is divided by in the end.
+const SCALE: u32 = 65536;
 
 // Multiplies each place by the factor.
 pub(crate) fn scale_places(p: Prime, row: &mut [u8], factor: u8)
@@ -13,8 +19,9 @@ pub(crate) fn scale_places(p: Prime, row: &mut [u8], factor: u8)
     ensures scaled { row.new ≡ scale (mod_ops p) factor row.old }
     ensures residues { All (λ x. x < p) row.new }
 {
+    let reciprocal = reciprocal(p);
     for i in 0..row.len() {
-        row[i] = p.mul(factor, row[i]);
+        row[i] = product_sum(p, reciprocal, factor, row[i], 0);
     }
 }
 
@@ -27,9 +34,44 @@ pub(crate) fn add_multiple(p: Prime, row: &mut [u8], source: &[u8], factor: u8)
     ensures added { row.new ≡ sum (mod_ops p) (scale (mod_ops p) factor source.now) row.old }
     ensures residues { All (λ x. x < p) row.new }
 {
-    for i in 0..row.len() {
-        row[i] = p.add(p.mul(factor, source[i]), row[i]);
+    if factor == 0 {
+        return;
     }
+    let reciprocal = reciprocal(p);
+    for i in 0..row.len() {
+        row[i] = product_sum(p, reciprocal, factor, source[i], row[i]);
+    }
+}
+
+// By what `remainder` multiplies in place of a division by p.
+fn reciprocal(p: Prime) -> u16
+    ensures { result ≡ 65535 / p + 1 }
+{
+    65535 / p.number() as u16 + 1
+}
+
+// The residue `a * b + c`.
+fn product_sum(p: Prime, reciprocal: u16, a: u8, b: u8, c: u8) -> u8
+    requires reciprocal { reciprocal ≡ 65535 / p + 1 }
+    requires factors { (a < p) × (b < p) }
+    requires addend { c < p }
+    ensures sum { result ≡ (mod_ops p).add ((mod_ops p).mul a b) c }
+    ensures residue { result < p }
+{
+    let _number = p.number();
+    remainder(p, reciprocal, a as u16 * b as u16 + c as u16)
+}
+
+// The remainder of x modulo p, with no division.
+//
+// The quotient is exact: p * reciprocal is above SCALE by less than p, and x / p + 1 times that is below reciprocal.
+fn remainder(p: Prime, reciprocal: u16, x: u16) -> u8
+    requires reciprocal { reciprocal ≡ 65535 / p + 1 }
+    requires small { x < MAX_SUM }
+    ensures { result ≡ x % p }
+{
+    let quotient = (x as u32 * reciprocal as u32 / SCALE) as u16;
+    (x - quotient * p.number() as u16) as u8
 }
 
 // n zeros.

@@ -1,7 +1,16 @@
-use Rattle.std.proofs.Common.{sym, arith}
+use Rattle.std.proofs.Common.{refl, sym, ◌∙◌, arith}
 use Rattle.ff_model.specs.Coefficients.{mod_ops}
 use Rattle.ff_linear.proofs.Columns.{sum_scale_by_places}
+use Rattle.ff_matrix.proofs.Steps.{added_nothing, done_more}
 use Rattle.ff_matrix.proofs.places.add_multiple.Goals as goal
+
+pub returns-then-factor-eq0-clause-added : goal.returns-then-factor-eq0-clause-added
+returns-then-factor-eq0-clause-added c =
+    added_nothing c.args.p c.args.factor c.args.row.now c.args.source.now c.if-factor-eq0.true c.requires.sizes c.requires.row
+
+pub loop-i-preserved : goal.loop-i-preserved
+loop-i-preserved c = done_more c.args.p c.loop-i.i c.product_sum.result _ c.args.row.now c.loop-i.row (omega arith)
+    (c.product_sum.ensures.sum ∙ rw (c.loop-i.invariant.after c.loop-i.i (omega arith)) refl) c.product_sum.ensures.residue c.loop-i.invariant
 
 pub returns-clause-added : goal.returns-clause-added
 returns-clause-added c =
