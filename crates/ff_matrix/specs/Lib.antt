@@ -1,2 +1,3 @@
+pub mod Echelons
 pub mod ModularMatrix
 pub mod Rows

@@ -2,7 +2,8 @@
 ghost use Rattle.std.specs.Prelude.{◌≡◌, ℕ, ◌+◌, ◌<◌, ◌≤◌, ◌==◌, if◌then◌else◌, length, map, replicate, All, slice_index};
 ghost use Rattle.std.specs.List.{range_with_len};
 ghost use Rattle.ff_model.specs.Coefficients.{residues, mod_ops};
-ghost use Rattle.ff_model.specs.Matrices.{entry, IsColumn, IsReduction};
+ghost use Rattle.ff_model.specs.Matrices.{entry, IsColumn};
+ghost use Rattle.ff_matrix.specs.Echelons.{IsEchelonOf};
 ghost use Rattle.ff_matrix.specs.ModularMatrix.{IsModularMatrix};
 ghost use Rattle.ff_matrix.specs.Rows.{AreRows, IsAugmented};
 
@@ -24,10 +25,7 @@ pub struct Echelon {
 impl Matrix {
     /// The reduced row echelon form, by Gauss-Jordan elimination on the matrix beside the identity (Hoffman and Kunze, Linear Algebra, 1.4).
     pub fn echelon(&self) -> Echelon
-        ensures form { result.form.prime ≡ self.now.prime }
-        ensures transform { result.transform.prime ≡ self.now.prime }
-        ensures reduction { IsReduction (residues self.now.prime) self.now.matrix result.form.matrix result.transform.matrix result.pivots }
-        ensures whole { IsModularMatrix result.form × IsModularMatrix result.transform }
+        ensures { IsEchelonOf self.now result }
     {
         let rows = self.rows();
         let mut room = [[0; MAX_WIDTH]; MAX_DEGREE];
@@ -38,10 +36,7 @@ impl Matrix {
 // The reduced row echelon form, worked out in these rows.
 fn echelon_in(m: &Matrix, rows: &mut [Row]) -> Echelon
     requires { length rows.old ≡ m.now.matrix.rows }
-    ensures form { result.form.prime ≡ m.now.prime }
-    ensures transform { result.transform.prime ≡ m.now.prime }
-    ensures reduction { IsReduction (residues m.now.prime) m.now.matrix result.form.matrix result.transform.matrix result.pivots }
-    ensures whole { IsModularMatrix result.form × IsModularMatrix result.transform }
+    ensures { IsEchelonOf m.now result }
 {
     let (p, columns) = (m.prime(), m.columns());
     augment(m, rows);

@@ -3,11 +3,12 @@ ghost use Rattle.std.specs.Prelude.{◌≡◌, ◌≢◌, ℕ, ◌+◌, ◌<◌,
 ghost use Rattle.ff_model.specs.Coefficients.{residues, mod_ops};
 ghost use Rattle.ff_model.specs.Matrices.{entry, column_at, matrix_apply, matrix_product, identity_matrix, IsColumn, IsMatrix, IsIndependent, IsKernelBasis};
 ghost use Rattle.ff_linear.proofs.Solutions.{AreFree};
-ghost use Rattle.ff_matrix.specs.ModularMatrix.{IsModularMatrix};
+ghost use Rattle.ff_matrix.specs.Echelons.{IsEchelonOf};
+ghost use Rattle.ff_matrix.specs.ModularMatrix.{ModularMatrix, IsModularMatrix};
 ghost use Rattle.ff_matrix.specs.Rows.{ArePlaces, IsKernelColumn};
 
 use crate::places::zeros;
-use crate::{Column, ColumnList, Matrix};
+use crate::{Column, ColumnList, Echelon, Matrix};
 use arrayvec::ArrayVec;
 use ff_poly::{MAX_DEGREE, Prime};
 
@@ -16,9 +17,7 @@ impl Matrix {
     pub fn kernel(&self) -> ColumnList
         ensures { IsKernelBasis (residues self.now.prime) self.now.matrix result }
     {
-        let echelon = self.echelon();
-        let free = free_columns(self.columns(), echelon.pivots.numbers());
-        kernel_columns(&echelon.form, echelon.pivots.numbers(), free.numbers())
+        self.echelon().kernel()
     }
 
     /// A column that the matrix sends to `b`; `None` exactly where there is none.
@@ -31,14 +30,7 @@ impl Matrix {
         ensures none { IsNone result ↔ ((x : List ℕ) → IsColumn (residues self.now.prime) (length self.now.matrix.columns) x
             → matrix_apply (mod_ops self.now.prime) self.now.matrix x ≡ b.now → ⊥) }
     {
-        let columns = self.columns();
-        let echelon = self.echelon();
-        let target = echelon.transform.apply(b);
-        let pivots = echelon.pivots.numbers();
-        if has_nonzero(target.numbers(), pivots.len()) {
-            return None;
-        }
-        Some(Column::of_slice(&spread(columns, pivots, target.numbers())))
+        self.echelon().solve(b)
     }
 
     /// A matrix whose product with this one is the identity; `None` exactly where the columns are dependent.
@@ -47,12 +39,53 @@ impl Matrix {
             × (matrix_product (mod_ops self.now.prime) l.matrix self.now.matrix ≡ identity_matrix (mod_ops self.now.prime) (length self.now.matrix.columns))) }
         ensures none { IsNone result ↔ (IsIndependent (residues self.now.prime) self.now.matrix.rows self.now.matrix.columns → ⊥) }
     {
-        let echelon = self.echelon();
-        let columns = self.columns();
-        if echelon.pivots.numbers().len() < columns {
+        self.echelon().left_inverse()
+    }
+}
+
+impl Echelon {
+    /// A basis of all columns that the matrix with this form sends to 0.
+    pub fn kernel(&self) -> ColumnList
+        requires { (m : ModularMatrix) × IsEchelonOf m self.now }
+        ensures { (m : ModularMatrix) → IsEchelonOf m self.now → IsKernelBasis (residues m.prime) m.matrix result }
+    {
+        let pivots = self.pivots.numbers();
+        let free = free_columns(self.form.columns(), pivots);
+        kernel_columns(&self.form, pivots, free.numbers())
+    }
+
+    /// A column that the matrix with this form sends to `b`; `None` exactly where there is none.
+    ///
+    /// `b` has as many numbers as the matrix has rows, each below its prime.
+    pub fn solve(&self, b: &Column) -> Option<Column>
+        requires { (m : ModularMatrix) × IsEchelonOf m self.now × IsColumn (residues m.prime) m.matrix.rows b.now }
+        ensures some { (m : ModularMatrix) → IsEchelonOf m self.now
+            → IfSome result (λ x. IsColumn (residues m.prime) (length m.matrix.columns) x × (matrix_apply (mod_ops m.prime) m.matrix x ≡ b.now)) }
+        ensures none { (m : ModularMatrix) → IsEchelonOf m self.now
+            → IsNone result ↔ ((x : List ℕ) → IsColumn (residues m.prime) (length m.matrix.columns) x → matrix_apply (mod_ops m.prime) m.matrix x ≡ b.now → ⊥) }
+    {
+        let columns = self.form.columns();
+        let target = self.transform.apply(b);
+        let pivots = self.pivots.numbers();
+        if has_nonzero(target.numbers(), pivots.len()) {
             return None;
         }
-        Some(top_rows(&echelon.transform, columns))
+        Some(Column::of_slice(&spread(columns, pivots, target.numbers())))
+    }
+
+    /// A matrix whose product with the matrix with this form is the identity; `None` exactly where the columns are dependent.
+    pub fn left_inverse(&self) -> Option<Matrix>
+        requires { (m : ModularMatrix) × IsEchelonOf m self.now }
+        ensures some { (m : ModularMatrix) → IsEchelonOf m self.now
+            → IfSome result (λ l. (l.prime ≡ m.prime) × (length l.matrix.columns ≡ m.matrix.rows)
+            × (matrix_product (mod_ops m.prime) l.matrix m.matrix ≡ identity_matrix (mod_ops m.prime) (length m.matrix.columns))) }
+        ensures none { (m : ModularMatrix) → IsEchelonOf m self.now → IsNone result ↔ (IsIndependent (residues m.prime) m.matrix.rows m.matrix.columns → ⊥) }
+    {
+        let columns = self.form.columns();
+        if self.pivots.numbers().len() < columns {
+            return None;
+        }
+        Some(top_rows(&self.transform, columns))
     }
 }
 

@@ -138,6 +138,28 @@ fn left_inverses(rt: HostRuntime) {
     }
 }
 
+#[test]
+fn answers_of_one_form(rt: HostRuntime) {
+    for case in &CASES {
+        let m = matrix(&rt, case);
+        let echelon = m.echelon();
+        let kernel = echelon.kernel();
+        same_columns(&rt, kernel.items(), case.columns, case.kernel);
+        let reached = column(&rt, m.prime(), case.reached);
+        assert!(rt; reached.numbers().len() == m.rows());
+        let x = echelon
+            .solve(&reached)
+            .expect(&rt, "a combination of the columns");
+        assert_eq!(rt; m.apply(&x).numbers(), case.reached);
+        if !case.missed.is_empty() {
+            let missed = column(&rt, m.prime(), case.missed);
+            assert!(rt; missed.numbers().len() == m.rows());
+            assert!(rt; echelon.solve(&missed).is_none());
+        }
+        assert!(rt; echelon.left_inverse().is_none() != case.kernel.is_empty());
+    }
+}
+
 const CASES: [Case; 9] = [
     Case {
         p: 2,
