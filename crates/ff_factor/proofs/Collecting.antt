@@ -13,6 +13,8 @@ use Rattle.ff_model.specs.Polynomials.{trim, poly_product}
 use Rattle.ff_model.specs.Factors.{IsPolynomial, IsMonic, IsIrreducible, IsLeastFactor, order_by}
 use Rattle.ff_rings.proofs.ResidueFields.{residues_field, residues_propositional}
 use Rattle.ff_rings.proofs.Carriers
+use Rattle.ff_rings.proofs.Rings.{mul_one}
+use Rattle.ff_rings.proofs.Divisors.{polynomial_laws}
 use Rattle.ff_divisors.specs.Factorization.{IsFactorization}
 use Rattle.ff_divisors.proofs.Order.{order_by_total}
 use Rattle.ff_divisors.proofs.LeastFactors.{least_of_factorization}
@@ -89,7 +91,7 @@ pub factorization_collected : (f : Polynomial) (old new : List Polynomial) → o
 factorization_collected f old new e whole h =
     let P = residues_propositional f.prime in
     let F = residues_field f.prime whole.characteristic in
-    subst (λ w. IsFactorization (residues f.prime) w (coefficients_of new)) (Factoring.product_one P F f.coefficients whole.polynomial)
+    subst (λ w. IsFactorization (residues f.prime) w (coefficients_of new)) (ap (λ g. g.0) (mul_one (polynomial_laws P F.ring) (f.coefficients, whole.polynomial)))
     (h.factors (trim (mod_ops f.prime) (1 ∷ [])) (Carriers.one_polynomial P F.ring)
     (subst (λ fs. IsFactorization (residues f.prime) (trim (mod_ops f.prime) (1 ∷ [])) (coefficients_of fs)) (sym e) (Factoring.factorization_none P F)))
 

@@ -6,7 +6,7 @@ use Rattle.ff_model.specs.Coefficients.{Ops, Carrier}
 use Rattle.ff_model.specs.Polynomials.{trim, shift, product, poly_product, poly_difference, poly_power}
 use Rattle.ff_model.specs.Factors.{IsPolynomial, IsMonic, IsDivision}
 use Rattle.ff_model.specs.Fields.{IsField}
-use Rattle.ff_model.specs.Values.{degree, reduced}
+use Rattle.ff_model.specs.Values.{degree, reduced, value_ops}
 use Rattle.ff_model.specs.Matrices.{IsColumn}
 use Rattle.ff_rings.specs.Laws.{IsPropositional}
 use Rattle.ff_rings.proofs.Monomials.{monomial, monomial_at, monomial_elsewhere}
@@ -21,9 +21,10 @@ use Rattle.ff_fields.proofs.FermatProduct.{leading_monomial}
 use Rattle.ff_fields.proofs.Modulo
 use Rattle.ff_fields.proofs.Modulo.{Same}
 use Rattle.ff_fields.proofs.Classes.{class_of}
-use Rattle.ff_fields.proofs.Remainders.{reduced_equal, same_from_reduced, reduced_from_same}
+use Rattle.ff_fields.proofs.Remainders.{reduced_equal, reduced_product, same_from_reduced, reduced_from_same}
+use Rattle.ff_fields.proofs.Generator.{generator, product_with_x}
 use Rattle.ff_factor.specs.Certificates.{frobenius_column}
-use Rattle.ff_factor.proofs.FrobeniusColumns.{variable, variable_product, variable_polynomial, variable_of, power_is}
+use Rattle.ff_factor.proofs.FrobeniusColumns.{variable, variable_polynomial, power_of_generator}
 
 module _ {A : Type 0} {c : Carrier A} (P : IsPropositional c) (F : IsField c) where
   abbrev Q : Ops (Polynomial c)
@@ -37,7 +38,7 @@ module _ {A : Type 0} {c : Carrier A} (P : IsPropositional c) (F : IsField c) wh
   variable_on_valid xs v = on_valid c (λ xs. product c.ops (variable c.ops) xs ≡ shift c.ops xs)
       (λ X. let H = value_homomorphism F.ring in
       let E = element_ops F.ring in
-      sym (Homomorphisms.product-map H (variable E) X) ∙ ap (map (value c)) (variable_product (element_laws P F.ring) X)
+      sym (Homomorphisms.product-map H (variable E) X) ∙ ap (map (value c)) (product_with_x (element_laws P F.ring) X)
       ∙ Homomorphisms.shift-map H X) xs v
 
   monomial_valid : (k : ℕ) → All c.Valid (monomial c.ops c.ops.one k)
@@ -93,17 +94,17 @@ module _ {A : Type 0} {c : Carrier A} (P : IsPropositional c) (F : IsField c) wh
     pub reduced_products : (a b g h : List A) → IsPolynomial c a → IsPolynomial c b → IsPolynomial c g → IsPolynomial c h → rest a ≡ rest g → rest b ≡ rest h
         → rest (poly_product c.ops a b) ≡ rest (poly_product c.ops g h)
     reduced_products a b g h va vb vg vh e k =
-        reduced_equal P F f not_constant monic (Q.mul (a, va) (b, vb)) (Q.mul (g, vg) (h, vh))
-        (Modulo.same_product U.ring (same_from_reduced P F f not_constant monic (a, va) (g, vg) e) (same_from_reduced P F f not_constant monic (b, vb) (h, vh) k))
+        reduced_product P F f not_constant monic (a, va) (b, vb) ∙ ap₂ (value_ops c.ops f.0).mul e k
+        ∙ sym (reduced_product P F f not_constant monic (g, vg) (h, vh))
 
     -- one more power x^p
     pub next_power : (p k : ℕ) (g h : List A) → IsPolynomial c g → IsPolynomial c h → rest g ≡ rest (poly_power c.ops (variable c.ops) (k * p))
         → rest h ≡ rest (poly_power c.ops (variable c.ops) p) → rest (poly_product c.ops g h) ≡ rest (poly_power c.ops (variable c.ops) (suc k * p))
     next_power p k g h vg vh e d =
         reduced_products g h (poly_power c.ops (variable c.ops) (k * p)) (poly_power c.ops (variable c.ops) p) vg vh (power_polynomial (k * p)) (power_polynomial p) e d
-        ∙ ap rest (sym (ap₂ (poly_product c.ops) (power_is P F (variable_of P F) (k * p)) (power_is P F (variable_of P F) p))
-        ∙ sym (ap (λ g. g.0) (Powers.power_add U.ring (variable_of P F) (k * p) p))
-        ∙ power_is P F (variable_of P F) (k * p + p) ∙ ap (poly_power c.ops (variable c.ops)) (let s : k * p + p ≡ suc k * p = omega arith in s))
+        ∙ ap rest (sym (ap₂ (poly_product c.ops) (power_of_generator P F (k * p)) (power_of_generator P F p))
+        ∙ sym (ap (λ g. g.0) (Powers.power_add U.ring (generator P F.ring) (k * p) p))
+        ∙ power_of_generator P F (k * p + p) ∙ ap (poly_power c.ops (variable c.ops)) (let s : k * p + p ≡ suc k * p = omega arith in s))
 
     -- **a column of v^p - v by its places**
     pub column_from_places : (p k : ℕ) (g x : List A) → IsPolynomial c g → IsColumn c (degree f.0) x → rest g ≡ rest (poly_power c.ops (variable c.ops) (k * p))

@@ -15,6 +15,7 @@ use Rattle.ff_fields.proofs.Frobenius.{IsPrime}
 use Rattle.ff_fields.proofs.Derivations.{polynomial_characteristic}
 use Rattle.ff_fields.proofs.Classes.{class_of}
 use Rattle.ff_fields.proofs.Remainders.{divides_iff_reduced}
+use Rattle.ff_fields.proofs.Certificates.{power_is}
 use Rattle.ff_factor.specs.Certificates.{frobenius_column}
 use Rattle.ff_factor.proofs.FrobeniusColumns
 
@@ -33,7 +34,7 @@ module _ {A : Type 0} {c : Carrier A} (P : IsPropositional c) (F : IsField c) (p
     gap = Q.add (power Q (class_of P F.ring (a ∷ xs) v) p) (Q.neg (class_of P F.ring (a ∷ xs) v))
 
     gap_is : gap.0 ≡ poly_difference c.ops (poly_power c.ops (trim c.ops (a ∷ xs)) p) (trim c.ops (a ∷ xs))
-    gap_is = ap (λ w. poly_difference c.ops w (trim c.ops (a ∷ xs))) (FrobeniusColumns.power_is P F (class_of P F.ring (a ∷ xs) v) p)
+    gap_is = ap (λ w. poly_difference c.ops w (trim c.ops (a ∷ xs))) (power_is P F (class_of P F.ring (a ∷ xs) v) p)
 
     pub fixed_from_combination : sent ≡ zero_column c.ops (degree f.0) → IsFixed c p f.0 (trim c.ops (a ∷ xs))
     fixed_from_combination e = subst (Divides c f.0) gap_is ((divides_iff_reduced P F f not_constant monic gap).1

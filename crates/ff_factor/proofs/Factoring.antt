@@ -1,44 +1,41 @@
 -- Factorizations over a field: one more factor, and the cofactor of a proper factor.
-use Rattle.std.proofs.Common.{◌≡◌, ◌≢◌, ℕ, ◌+◌, ◌<◌, List, [], ◌∷◌, ◌++◌, length, take, drop, All, refl, ap, sym, ◌∙◌, arith}
+use Rattle.std.proofs.Common.{◌≡◌, ◌≢◌, ℕ, ◌+◌, ◌<◌, List, [], ◌∷◌, ◌++◌, length, map, take, drop, All, refl, ap, sym, ◌∙◌, arith}
 use Rattle.std.specs.List.{insert}
-use Rattle.std.proofs.lemmas.List.{take-append-drop}
-use Rattle.std.proofs.lemmas.List.Elements.{All-head, All-tail, All-append, All-take, All-drop, All-nil, All-weaker}
+use Rattle.std.proofs.lemmas.List.{take-append-drop, map-append}
+use Rattle.std.proofs.lemmas.List.Elements.{All-take, All-drop, All-nil, All-weaker}
 use Rattle.ff_model.specs.Coefficients.{Carrier}
 use Rattle.ff_model.specs.Polynomials.{trim, poly_sum, poly_product, leading}
 use Rattle.ff_model.specs.Factors.{IsPolynomial, IsMonic, IsDivision, IsProperFactor, IsIrreducible}
 use Rattle.ff_model.specs.Fields.{IsField}
-use Rattle.ff_rings.specs.Laws.{IsPropositional}
+use Rattle.ff_rings.specs.Laws.{IsPropositional, polynomials}
+use Rattle.ff_rings.proofs.Elements.{on_valid₂}
 use Rattle.ff_rings.proofs.Lists.{sum_nil}
-use Rattle.ff_rings.proofs.Validity.{leading_valid}
 use Rattle.ff_rings.proofs.Carriers
 use Rattle.ff_rings.proofs.Divisors
+use Rattle.ff_rings.proofs.Divisors.{Polynomial, polynomial_laws}
 use Rattle.ff_divisors.specs.Factorization.{product_of, IsFactorization}
+use Rattle.ff_divisors.proofs.Factorization.{product_middle}
+use Rattle.ff_divisors.proofs.Fields.{polynomials_euclidean}
+use Rattle.ff_divisors.proofs.Polynomials.{product_of-map}
 use Rattle.ff_factor.specs.Splitting.{IsCofactor}
 use Rattle.ff_factor.proofs.Insertion.{All-insert}
 
 module _ {A : Type 0} {c : Carrier A} (P : IsPropositional c) (F : IsField c) where
-  product_left_comm : (f g h : List A) → IsPolynomial c f → IsPolynomial c g → IsPolynomial c h
-      → poly_product c.ops f (poly_product c.ops g h) ≡ poly_product c.ops g (poly_product c.ops f h)
-  product_left_comm f g h vf vg vh =
-      sym (Carriers.poly_product_assoc P F.ring f g h vf.0 vg.0 vh.0)
-      ∙ ap (λ w. poly_product c.ops w h) (Carriers.poly_product_comm P F.ring f g vf.0 vg.0)
-      ∙ Carriers.poly_product_assoc P F.ring g f h vg.0 vf.0 vh.0
-
-  pub product_of_polynomial : (fs : List (List A)) → All (IsPolynomial c) fs → IsPolynomial c (product_of c.ops fs)
-  product_of_polynomial [] v = Carriers.one_polynomial P F.ring
-  product_of_polynomial (f ∷ fs) v =
-      Carriers.poly_product_polynomial P F.ring f (product_of c.ops fs) (All-head (IsPolynomial c) f fs v)
-      (product_of_polynomial fs (All-tail (IsPolynomial c) f fs v))
-
   -- a factor in the middle may stand first
   product_of_between : (fs gs : List (List A)) (f : List A) → IsPolynomial c f → All (IsPolynomial c) fs → All (IsPolynomial c) gs
       → product_of c.ops (fs ++ f ∷ gs) ≡ poly_product c.ops f (product_of c.ops (fs ++ gs))
-  product_of_between [] gs f v vf vg = refl
-  product_of_between (h ∷ fs) gs f v vf vg =
-      let vh = All-head (IsPolynomial c) h fs vf in
-      let vr = All-tail (IsPolynomial c) h fs vf in
-      ap (poly_product c.ops h) (product_of_between fs gs f v vr vg)
-      ∙ product_left_comm h f (product_of c.ops (fs ++ gs)) vh v (product_of_polynomial (fs ++ gs) (All-append (IsPolynomial c) fs gs vr vg))
+  product_of_between fs gs f v vf vg =
+      on_valid₂ (polynomials c) (λ fs gs. product_of c.ops (fs ++ f ∷ gs) ≡ poly_product c.ops f (product_of c.ops (fs ++ gs))) members fs gs vf vg
+    where
+      value_of : Polynomial c → List A
+      value_of x = x.0
+
+      members : (X Y : List (Polynomial c))
+          → product_of c.ops (map value_of X ++ f ∷ map value_of Y) ≡ poly_product c.ops f (product_of c.ops (map value_of X ++ map value_of Y))
+      members X Y =
+          ap (product_of c.ops) (sym (map-append value_of X ((f, v) ∷ Y))) ∙ sym (product_of-map P F (X ++ (f, v) ∷ Y))
+          ∙ ap value_of (product_middle (polynomial_laws P F.ring) X (f, v) Y)
+          ∙ ap (poly_product c.ops f) (product_of-map P F (X ++ Y) ∙ ap (product_of c.ops) (map-append value_of X Y))
 
   -- **one more irreducible factor**
   pub factorization_insert : (fs : List (List A)) (i : ℕ) (f g : List A) → IsMonic c f → IsIrreducible c f → IsFactorization c g fs
@@ -56,11 +53,6 @@ module _ {A : Type 0} {c : Carrier A} (P : IsPropositional c) (F : IsField c) wh
   -- no factors yet
   pub factorization_none : IsFactorization c (trim c.ops (c.ops.one ∷ [])) []
   factorization_none = record { monic = All-nil (IsMonic c); irreducible = All-nil (IsIrreducible c); product_is = refl }
-
-  pub product_one : (f : List A) → IsPolynomial c f → poly_product c.ops f (trim c.ops (c.ops.one ∷ [])) ≡ f
-  product_one f v =
-      Carriers.poly_product_comm P F.ring f (trim c.ops (c.ops.one ∷ [])) v.0 (Carriers.one_polynomial P F.ring).0
-      ∙ Carriers.one_poly_product P F.ring f v
 
   pub monic_not_nil : (f : List A) → IsMonic c f → f ≢ []
   monic_not_nil f m z = F.one_not_zero (sym m ∙ ap (leading c.ops) z)
@@ -92,8 +84,4 @@ module _ {A : Type 0} {c : Carrier A} (P : IsPropositional c) (F : IsField c) wh
           ∙ ap (λ w. length w + 1) product
 
       monic : IsMonic c q
-      monic =
-          let v = leading_valid F.ring q division.quotient.0 in
-          sym (F.ring.one_mul (leading c.ops q) v) ∙ F.ring.mul_comm c.ops.one (leading c.ops q) F.ring.one_valid v
-          ∙ ap (c.ops.mul (leading c.ops q)) (sym factor.monic) ∙ sym (Divisors.leading_poly_product P F q g division.quotient factor.polynomial)
-          ∙ ap (leading c.ops) product ∙ m
+      monic = (polynomials_euclidean P F).monic_quotient (q, division.quotient) (g, factor.polynomial) (ap (leading c.ops) product ∙ m) factor.monic

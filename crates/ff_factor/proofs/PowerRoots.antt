@@ -24,7 +24,7 @@ use Rattle.ff_fields.proofs.PowerRoots
 use Rattle.ff_fields.proofs.PowerRoots.{every}
 use Rattle.ff_fields.proofs.Constants.{constant_homomorphism}
 use Rattle.ff_fields.proofs.Classes.{class_of}
-use Rattle.ff_factor.proofs.FrobeniusColumns.{variable_of, class_is_value}
+use Rattle.ff_fields.proofs.Generator.{generator, value_at_generator}
 
 every_at : {A : Type 0} (p : ℕ) (z : A) → 0 < p → (j : ℕ) (f : List A) (i : ℕ) → slice_index_or (every p (λ a. a) j f) i z ≡ slice_index_or f (j + i * p) z
 every_at p z l j [] i = refl
@@ -54,11 +54,11 @@ module _ {A : Type 0} {c : Carrier A} (P : IsPropositional c) (F : IsField c) (p
   power_of_every : (X : List (Element c)) → derivative E X ≡ []
       → class_of P F.ring (map (value c) X) (values_valid c X) ≡ power Q (class_of P F.ring (map (value c) (every p (λ a. a) 0 X)) (values_valid c (every p (λ a. a) 0 X))) p
   power_of_every X e =
-      sym (class_is_value P F X (values_valid c X))
+      sym (value_at_generator P F.ring X (values_valid c X))
       ∙ PowerRoots.power_from_derivative L (polynomial_laws P F.ring) (constant_homomorphism P F.ring) p prime characteristic (λ a. a) fixed
-      (variable_of P F) X
+      (generator P F.ring) X
       (λ i. Trims.places_of_trim E L.zero_test (raw_derivative E X) [] (sym (Derivatives.derivative_is_trimmed L X) ∙ e) i)
-      ∙ ap (λ g. power Q g p) (class_is_value P F (every p (λ a. a) 0 X) (values_valid c (every p (λ a. a) 0 X)))
+      ∙ ap (λ g. power Q g p) (value_at_generator P F.ring (every p (λ a. a) 0 X) (values_valid c (every p (λ a. a) 0 X)))
 
   -- **the root p**
   pub power_of_root : (f g : Polynomial c) → derivative c.ops f.0 ≡ []

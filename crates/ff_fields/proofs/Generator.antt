@@ -1,5 +1,5 @@
 -- Each polynomial is the value at x of its own coefficients, taken as constants.
-use Rattle.std.proofs.Common.{◌≡◌, List, [], ◌∷◌, map, refl, ap, ap₂, sym, ◌∙◌}
+use Rattle.std.proofs.Common.{◌≡◌, List, [], ◌∷◌, map, All, refl, ap, ap₂, sym, ◌∙◌}
 use Rattle.ff_model.specs.Coefficients.{Ops, Carrier}
 use Rattle.ff_model.specs.Polynomials.{sum, scale, shift, product, trim, poly_sum, poly_product, value_at}
 use Rattle.ff_model.specs.Fields.{IsRing}
@@ -15,7 +15,8 @@ use Rattle.ff_fields.proofs.Constants.{constant}
 module _ {A : Type 0} {o : Ops A} (R : RingLaws o) where
   open o use {zero as O, one as I}
 
-  product_with_x : (f : List A) → product o (O ∷ I ∷ []) f ≡ shift o f
+  -- x * f
+  pub product_with_x : (f : List A) → product o (O ∷ I ∷ []) f ≡ shift o f
   product_with_x f =
       ap (λ w. sum o (scale o O f) (shift o w)) (Lists.one_product R f) ∙ Lists.sum_zeros R f (shift o f) (Lists.length_le_shift o f)
 
@@ -56,12 +57,16 @@ module _ {A : Type 0} {c : Carrier A} (P : IsPropositional c) (R : IsRing c) whe
       (poly_product-map H (trim E (E.zero ∷ E.one ∷ [])) (trim E F)
       ∙ ap₂ (poly_product c.ops) (trim-map H (E.zero ∷ E.one ∷ [])) (trim-map H F)))
 
-  value_at_generator : (F : List (Element c)) → value_at Q (map (constant P R) F) generator ≡ polynomial_from F
-  value_at_generator [] = same_polynomial P R Q.zero (polynomial_from []) refl
-  value_at_generator (a ∷ F) = ap (λ w. Q.add (constant P R a) (Q.mul generator w)) (value_at_generator F) ∙ sym (polynomial_from_cons a F)
+  -- **the polynomial of a list of coefficients is their value at x**
+  pub value_at_generator : (F : List (Element c)) (v : All c.Valid (map (value c) F))
+      → value_at Q (map (constant P R) F) generator ≡ class_of P R (map (value c) F) v
+  value_at_generator [] v = same_polynomial P R Q.zero (class_of P R [] v) refl
+  value_at_generator (a ∷ F) v =
+      ap (λ w. Q.add (constant P R a) (Q.mul generator w)) (value_at_generator F (values_valid c F)) ∙ sym (polynomial_from_cons a F)
+      ∙ same_polynomial P R (polynomial_from (a ∷ F)) (class_of P R (map (value c) (a ∷ F)) v) refl
 
   -- **f is the value at x of its coefficients**
   pub polynomial_is_value : (f : Polynomial c) → value_at Q (map (constant P R) (elements c f.0 f.1.0)) generator ≡ f
   polynomial_is_value f =
-      value_at_generator (elements c f.0 f.1.0)
+      value_at_generator (elements c f.0 f.1.0) (values_valid c (elements c f.0 f.1.0))
       ∙ same_polynomial P R (polynomial_from (elements c f.0 f.1.0)) f (ap (trim c.ops) (elements_are c f.0 f.1.0) ∙ f.1.1)
