@@ -1,30 +1,33 @@
 -- Polynomials with one remainder modulo a monic f, powers of x, and the columns of v -> v^p - v by their places.
-use Rattle.std.proofs.Common.{◌≡◌, ⊎_elim, ℕ, zero, suc, ◌+◌, ◌*◌, ◌<◌, ◌==◌, cond, List, [], map, length, slice_index_or, All, refl, ap, ap₂, sym, ◌∙◌, arith, subst}
+use Rattle.std.proofs.Common.{◌≡◌, ⊎_elim, ℕ, zero, suc, ◌-◌, ◌*◌, ◌<◌, ◌==◌, cond, List, [], ◌∷◌, map, length, replicate, slice_index_or, All, refl, ap, sym, ◌∙◌, arith, subst}
 use Rattle.std.proofs.lemmas.Bool.{cases_eq, eq-eqb, ne_eqb}
-use Rattle.std.proofs.lemmas.List.Elements.{All-cons, All-nil}
+use Rattle.std.proofs.lemmas.List.Elements.{All-cons, All-nil, All-take}
 use Rattle.ff_model.specs.Coefficients.{Ops, Carrier}
-use Rattle.ff_model.specs.Polynomials.{trim, shift, product, poly_product, poly_difference, poly_power}
+use Rattle.ff_model.specs.Polynomials.{sum, scale, trim, shift, product, poly_product, poly_difference, poly_power}
 use Rattle.ff_model.specs.Factors.{IsPolynomial, IsMonic, IsDivision}
 use Rattle.ff_model.specs.Fields.{IsField}
-use Rattle.ff_model.specs.Values.{degree, reduced, value_ops}
+use Rattle.ff_model.specs.Values.{degree, padded, times_x, reduced, values}
 use Rattle.ff_model.specs.Matrices.{IsColumn}
 use Rattle.ff_rings.specs.Laws.{IsPropositional}
 use Rattle.ff_rings.proofs.Monomials.{monomial, monomial_at, monomial_elsewhere}
 use Rattle.ff_rings.proofs.Homomorphisms
 use Rattle.ff_rings.proofs.Elements.{value, element_ops, value_homomorphism, on_valid, element_laws}
 use Rattle.ff_rings.proofs.Carriers
+use Rattle.ff_rings.proofs.Validity.{place_valid, sum_valid, scale_valid}
 use Rattle.ff_rings.proofs.Divisors.{Polynomial, polynomial_ops, same_polynomial}
 use Rattle.ff_divisors.proofs.Euclidean
 use Rattle.ff_divisors.proofs.Fields.{polynomials_euclidean}
-use Rattle.ff_fields.proofs.Powers
 use Rattle.ff_fields.proofs.FermatProduct.{leading_monomial}
 use Rattle.ff_fields.proofs.Modulo
 use Rattle.ff_fields.proofs.Modulo.{Same}
-use Rattle.ff_fields.proofs.Classes.{class_of}
-use Rattle.ff_fields.proofs.Remainders.{reduced_equal, reduced_product, same_from_reduced, reduced_from_same}
-use Rattle.ff_fields.proofs.Generator.{generator, product_with_x}
+use Rattle.ff_fields.proofs.Classes.{class_of, reduced_same, reduced_valid}
+use Rattle.ff_fields.proofs.Reduction.{length_reduced}
+use Rattle.ff_fields.proofs.ValueFields.{values_ring}
+use Rattle.ff_fields.proofs.Remainders.{reduced_equal, reduced_of_value, reduced_value, same_from_reduced, reduced_from_same}
+use Rattle.ff_fields.proofs.Generator.{product_with_x}
 use Rattle.ff_factor.specs.Certificates.{frobenius_column}
-use Rattle.ff_factor.proofs.FrobeniusColumns.{variable, variable_polynomial, power_of_generator}
+use Rattle.ff_factor.proofs.FrobeniusColumns.{variable, variable_polynomial}
+use Rattle.ff_factor.proofs.Shifts.{length_times_x}
 
 module _ {A : Type 0} {c : Carrier A} (P : IsPropositional c) (F : IsField c) where
   abbrev Q : Ops (Polynomial c)
@@ -64,7 +67,7 @@ module _ {A : Type 0} {c : Carrier A} (P : IsPropositional c) (F : IsField c) wh
       ∙ ap (trim c.ops) (variable_on_valid (monomial c.ops c.ops.one k) (monomial_valid k) ∙ shift_monomial k)
       ∙ (monomial_polynomial (suc k)).1
 
-  power_polynomial : (k : ℕ) → IsPolynomial c (poly_power c.ops (variable c.ops) k)
+  pub power_polynomial : (k : ℕ) → IsPolynomial c (poly_power c.ops (variable c.ops) k)
   power_polynomial k = Carriers.poly_power_polynomial P F.ring (variable c.ops) k (variable_polynomial P F)
 
   -- the places of x^k
@@ -90,21 +93,39 @@ module _ {A : Type 0} {c : Carrier A} (P : IsPropositional c) (F : IsField c) wh
         reduced_equal P F f not_constant monic (r, d.remainder) (g, v)
         (Modulo.same_back U.ring (record { quotient = (q, d.quotient); identity = same_polynomial P F.ring _ _ (sym d.identity) }))
 
-    -- **products of what has one remainder**
-    pub reduced_products : (a b g h : List A) → IsPolynomial c a → IsPolynomial c b → IsPolynomial c g → IsPolynomial c h → rest a ≡ rest g → rest b ≡ rest h
-        → rest (poly_product c.ops a b) ≡ rest (poly_product c.ops g h)
-    reduced_products a b g h va vb vg vh e k =
-        reduced_product P F f not_constant monic (a, va) (b, vb) ∙ ap₂ (value_ops c.ops f.0).mul e k
-        ∙ sym (reduced_product P F f not_constant monic (g, vg) (h, vh))
+    -- zeros at the end make no difference
+    pub reduced_trim : (g : List A) → All c.Valid g → rest (trim c.ops g) ≡ rest g
+    reduced_trim g v =
+        let vr = reduced_valid P F.ring f.0 g f.1.0 v in
+        reduced_from_same P F f not_constant monic (class_of P F.ring g v) (rest g) (vr, length_reduced c.ops f.0 not_constant g)
+        (Modulo.same_back U.ring (reduced_same P F.ring f not_constant monic g v vr))
 
-    -- one more power x^p
-    pub next_power : (p k : ℕ) (g h : List A) → IsPolynomial c g → IsPolynomial c h → rest g ≡ rest (poly_power c.ops (variable c.ops) (k * p))
-        → rest h ≡ rest (poly_power c.ops (variable c.ops) p) → rest (poly_product c.ops g h) ≡ rest (poly_power c.ops (variable c.ops) (suc k * p))
-    next_power p k g h vg vh e d =
-        reduced_products g h (poly_power c.ops (variable c.ops) (k * p)) (poly_power c.ops (variable c.ops) p) vg vh (power_polynomial (k * p)) (power_polynomial p) e d
-        ∙ ap rest (sym (ap₂ (poly_product c.ops) (power_of_generator P F (k * p)) (power_of_generator P F p))
-        ∙ sym (ap (λ g. g.0) (Powers.power_add U.ring (generator P F.ring) (k * p) p))
-        ∙ power_of_generator P F (k * p + p) ∙ ap (poly_power c.ops (variable c.ops)) (let s : k * p + p ≡ suc k * p = omega arith in s))
+    -- a remainder is its own remainder
+    pub reduced_again : (r : List A) → (values c f.0).Valid r → rest r ≡ r
+    reduced_again r v = sym (reduced_trim r v.0) ∙ reduced_of_value P F f not_constant monic r v
+
+    times_x_valid : (r : List A) → (values c f.0).Valid r → (values c f.0).Valid (times_x c.ops f.0 r)
+    times_x_valid r v =
+        let t = c.ops.neg (slice_index_or r (degree f.0 - 1) c.ops.zero) in
+        let vt = F.ring.neg_valid (slice_index_or r (degree f.0 - 1) c.ops.zero) (place_valid F.ring r (degree f.0 - 1) v.0) in (
+          All-take c.Valid (degree f.0) (sum c.ops (c.ops.zero ∷ r) (scale c.ops t f.0))
+              (sum_valid F.ring (c.ops.zero ∷ r) (scale c.ops t f.0) (All-cons c.Valid c.ops.zero r F.ring.zero_valid v.0) (scale_valid F.ring t f.0 vt f.1.0)),
+          length_times_x c.ops f.0 r (omega (arith, v.1)) ∙ v.1,
+        )
+
+    -- **the next power of x**
+    pub next_power : (k : ℕ) → rest (poly_power c.ops (variable c.ops) (suc k)) ≡ times_x c.ops f.0 (rest (poly_power c.ops (variable c.ops) k))
+    next_power k =
+        ap rest (power_of_variable (suc k) ∙ ap (λ g. c.ops.zero ∷ g) (sym (power_of_variable k)))
+        ∙ ap (λ z. sum c.ops z r) zeros
+        ∙ (values_ring P F f not_constant monic).zero_add r (times_x_valid (rest (poly_power c.ops (variable c.ops) k))
+        (reduced_value P F f not_constant monic (poly_power c.ops (variable c.ops) k, power_polynomial k)))
+      where
+        r : List A
+        r = times_x c.ops f.0 (rest (poly_power c.ops (variable c.ops) k))
+
+        zeros : padded c.ops (degree f.0) (c.ops.zero ∷ []) ≡ replicate (degree f.0) c.ops.zero
+        zeros = let e : suc (degree f.0 - 1) ≡ degree f.0 = omega arith in ap (λ n. replicate n c.ops.zero) e
 
     -- **a column of v^p - v by its places**
     pub column_from_places : (p k : ℕ) (g x : List A) → IsPolynomial c g → IsColumn c (degree f.0) x → rest g ≡ rest (poly_power c.ops (variable c.ops) (k * p))

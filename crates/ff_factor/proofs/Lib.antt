@@ -12,3 +12,4 @@ pub mod Steps
 pub mod PowersOfVariable
 pub mod AtResidues
 pub mod Identities
+pub mod Shifts

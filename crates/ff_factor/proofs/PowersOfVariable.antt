@@ -1,93 +1,89 @@
 -- The powers x^(k p) modulo f, and the columns of v^p - v, over the residues modulo a characteristic.
-use Rattle.std.proofs.Common.{◌≡◌, ⊎_elim, ℕ, suc, ◌+◌, ◌*◌, ◌<◌, ◌≤◌, ◌==◌, cond, List, [], ◌∷◌, length, slice_index, ap, ap₂, sym, ◌∙◌, arith, subst, zero-mul}
+use Rattle.std.proofs.Common.{◌≡◌, ⊎_elim, ℕ, suc, ◌-◌, ◌*◌, ◌<◌, ◌≤◌, ◌==◌, cond, List, [], ◌∷◌, length, replicate, slice_index, All, ap, ap₂, sym, ◌∙◌, arith, subst, mod-eq_of_lt}
 use Rattle.std.proofs.lemmas.Bool.{cases_lt, ne_eqb}
 use Rattle.std.proofs.lemmas.List.{get_or_past}
-use Rattle.ff_model.specs.Coefficients.{mod_ops, residues}
-use Rattle.ff_model.specs.Polynomials.{trim, poly_product, poly_power}
-use Rattle.ff_model.specs.Factors.{IsPolynomial, IsMonic, IsDivision}
+use Rattle.ff_model.specs.Coefficients.{Ops, mod_ops, residues}
+use Rattle.ff_model.specs.Polynomials.{trim, poly_power}
+use Rattle.ff_model.specs.Factors.{IsMonic, IsDivision}
 use Rattle.ff_model.specs.Fields.{IsField}
-use Rattle.ff_model.specs.Values.{degree, reduced}
+use Rattle.ff_model.specs.Values.{degree, times_x, reduced}
 use Rattle.ff_model.specs.Matrices.{IsColumn}
-use Rattle.ff_rings.proofs.ResidueFields.{residues_field, residues_propositional}
-use Rattle.ff_rings.proofs.Trims
+use Rattle.ff_rings.proofs.ResidueFields.{residues_field, residues_propositional, two_le_characteristic}
+use Rattle.ff_rings.proofs.Carriers
+use Rattle.ff_fields.proofs.Remainders.{reduced_value, reduced_one}
 use Rattle.ff_poly.specs.Polynomial.{Polynomial, IsPoly}
 use Rattle.ff_factor.specs.Certificates.{frobenius_column}
-use Rattle.ff_factor.specs.Splitting.{IsPowerOfVariable}
+use Rattle.ff_factor.specs.Splitting.{IsPowerOfVariable, ArePlacesOfPower, residues_modulo}
 use Rattle.ff_factor.proofs.Congruences
+use Rattle.ff_factor.proofs.Shifts.{residues_of_zeros}
 
 module _ (f : Polynomial) (whole : IsPoly f) (monic : IsMonic (residues f.prime) f.coefficients) (not_constant : 1 < length f.coefficients) where
+  abbrev o : Ops ℕ
+  o = mod_ops f.prime
+
+  abbrev F : IsField (residues f.prime)
+  F = residues_field f.prime whole.characteristic
+
+  abbrev x : List ℕ
+  x = 0 ∷ 1 ∷ []
+
+  abbrev rest : List ℕ → List ℕ
+  rest g = reduced (mod_ops f.prime) f.coefficients g
+
   -- by division
-  pub power_from_division : (k e : ℕ) (x g : Polynomial) → x.prime ≡ f.prime → x.coefficients ≡ 0 ∷ 1 ∷ [] → g.prime ≡ x.prime → e ≡ k * f.prime
+  pub power_from_division : (k e : ℕ) (x g : Polynomial) → x.prime ≡ f.prime → x.coefficients ≡ 0 ∷ 1 ∷ [] → e ≡ k * f.prime
       → (q : List ℕ) × IsDivision (residues x.prime) (poly_power (mod_ops x.prime) x.coefficients e) f.coefficients q g.coefficients
-      → IsPowerOfVariable f k g
-  power_from_division k e x g xp xc gp h (q, d) =
-      let d' : IsDivision (residues f.prime) (poly_power (mod_ops f.prime) x.coefficients e) f.coefficients q g.coefficients =
+      → IsPowerOfVariable f k g.coefficients
+  power_from_division k e x g xp xc h (q, d) =
+      let d' : IsDivision (residues f.prime) (poly_power o x.coefficients e) f.coefficients q g.coefficients =
       subst (λ p. IsDivision (residues p) (poly_power (mod_ops p) x.coefficients e) f.coefficients q g.coefficients) xp d in
       record {
-        prime = gp ∙ xp;
-        shorter = d'.smaller;
+        residues = d'.remainder.0;
+        short = let s : length g.coefficients < length f.coefficients = d'.smaller in omega arith;
         power =
-            Congruences.reduced_remainder (residues_propositional f.prime) (residues_field f.prime whole.characteristic) (f.coefficients, whole.polynomial)
-            not_constant monic (poly_power (mod_ops f.prime) x.coefficients e) q g.coefficients d'
-            ∙ ap₂ (λ c n. reduced (mod_ops f.prime) f.coefficients (poly_power (mod_ops f.prime) c n)) xc h;
+            Congruences.reduced_remainder (residues_propositional f.prime) F (f.coefficients, whole.polynomial)
+            not_constant monic (poly_power o x.coefficients e) q g.coefficients d'
+            ∙ ap₂ (λ c n. rest (poly_power o c n)) xc h;
       }
 
-  -- x^0
-  pub power_none : (g : Polynomial) → g.prime ≡ f.prime → g.coefficients ≡ trim (mod_ops g.prime) (1 ∷ []) → IsPowerOfVariable f 0 g
-  power_none g gp gc =
-      let same : g.coefficients ≡ trim (mod_ops f.prime) (1 ∷ []) = gc ∙ ap (λ p. trim (mod_ops p) (1 ∷ [])) gp in
-      record {
-        prime = gp;
-        shorter = omega (arith, ap length same, Trims.length_trim (mod_ops f.prime) (1 ∷ []));
-        power =
-            ap (reduced (mod_ops f.prime) f.coefficients) same
-            ∙ ap (λ n. reduced (mod_ops f.prime) f.coefficients (poly_power (mod_ops f.prime) (0 ∷ 1 ∷ []) n)) (sym (zero-mul f.prime));
-      }
+  -- **the powers of x in turn**
+  pub places_of_one : ArePlacesOfPower f 0 (1 ∷ replicate (degree f.coefficients - 1) 0)
+  places_of_one =
+      ap₂ ◌∷◌ (mod-eq_of_lt (two_le_characteristic f.prime whole.characteristic))
+      (residues_of_zeros f.prime (degree f.coefficients - 1))
+      ∙ sym (reduced_one (residues_propositional f.prime) F (f.coefficients, whole.polynomial) not_constant monic)
 
-  -- one more
-  pub power_next : (k : ℕ) (g h r : Polynomial) → IsPoly g → IsPoly h → IsPowerOfVariable f k g → IsPowerOfVariable f 1 h → r.prime ≡ f.prime
-      → length r.coefficients < length f.coefficients
-      → reduced (mod_ops f.prime) f.coefficients r.coefficients ≡ reduced (mod_ops f.prime) f.coefficients (poly_product (mod_ops f.prime) g.coefficients h.coefficients)
-      → IsPowerOfVariable f (k + 1) r
-  power_next k g h r wg wh pg ph rp short e =
-      let one : 1 * f.prime ≡ f.prime = omega arith in
-      let more : suc k * f.prime ≡ (k + 1) * f.prime = omega arith in
+  pub places_of_next : (e : ℕ) (xs ys : List ℕ) → ArePlacesOfPower f e xs
+      → residues_modulo f.prime ys ≡ times_x o f.coefficients (residues_modulo f.prime xs) → ArePlacesOfPower f (suc e) ys
+  places_of_next e xs ys h k =
+      k ∙ ap (times_x o f.coefficients) h
+      ∙ sym (Congruences.next_power (residues_propositional f.prime) F (f.coefficients, whole.polynomial) not_constant monic e)
+
+  pub power_from_places : (k : ℕ) (xs c : List ℕ) → ArePlacesOfPower f (k * f.prime) xs → c ≡ residues_modulo f.prime xs → IsPowerOfVariable f k c
+  power_from_places k xs c h same =
+      let g = poly_power o x (k * f.prime) in
+      let v = reduced_value (residues_propositional f.prime) F (f.coefficients, whole.polynomial) not_constant monic
+      (g, Congruences.power_polynomial (residues_propositional f.prime) F (k * f.prime)) in
       record {
-        prime = rp;
-        shorter = short;
-        power =
-            e
-            ∙ Congruences.next_power (residues_propositional f.prime) (residues_field f.prime whole.characteristic) (f.coefficients, whole.polynomial)
-            not_constant monic f.prime k g.coefficients h.coefficients
-            (subst (λ p. IsPolynomial (residues p) g.coefficients) pg.prime wg.polynomial)
-            (subst (λ p. IsPolynomial (residues p) h.coefficients) ph.prime wh.polynomial)
-            pg.power (ph.power ∙ ap (λ n. reduced (mod_ops f.prime) f.coefficients (poly_power (mod_ops f.prime) (0 ∷ 1 ∷ []) n)) one)
-            ∙ ap (λ n. reduced (mod_ops f.prime) f.coefficients (poly_power (mod_ops f.prime) (0 ∷ 1 ∷ []) n)) more;
+        residues = subst (All (λ y. y < f.prime)) (sym (same ∙ h)) v.0;
+        short = omega (arith, ap length (same ∙ h), v.1);
+        power = ap rest (same ∙ h)
+            ∙ Congruences.reduced_again (residues_propositional f.prime) F (f.coefficients, whole.polynomial) not_constant monic (rest g) v;
       }
 
   -- **a column from the places of the power**
-  pub column_from_power : (k : ℕ) (g : Polynomial) (x : List ℕ) → k < degree f.coefficients → IsPoly g → IsPowerOfVariable f k g
-      → IsColumn (residues g.prime) (degree f.coefficients) x
-      → ((i : ℕ) → i < degree f.coefficients
-      → slice_index x i ≡ (mod_ops g.prime).add (slice_index g.coefficients i) ((mod_ops g.prime).neg (cond (i == k) 1 0)))
-      → (x ≡ frobenius_column (mod_ops f.prime) f.prime f.coefficients k) × IsColumn (residues f.prime) (degree f.coefficients) x
-  column_from_power k g x l wg pg vx at =
-      let v = subst (λ p. IsColumn (residues p) (degree f.coefficients) x) pg.prime vx in (
-        Congruences.column_from_places (residues_propositional f.prime) F (f.coefficients, whole.polynomial) not_constant monic f.prime k
-            g.coefficients x (subst (λ p. IsPolynomial (residues p) g.coefficients) pg.prime wg.polynomial) v pg.power
-            (λ i. ⊎_elim (λ li. at i li
-            ∙ ap (λ p. (mod_ops p).add (slice_index g.coefficients i) ((mod_ops p).neg (cond (i == k) 1 0))) pg.prime)
-            (λ li. past i li) (cases_lt i (degree f.coefficients))),
-        v,
-      )
+  pub column_from_power : (k : ℕ) (g x : List ℕ) → k < degree f.coefficients → IsPowerOfVariable f k g → IsColumn (residues f.prime) (degree f.coefficients) x
+      → ((i : ℕ) → i < degree f.coefficients → slice_index x i ≡ (mod_ops f.prime).add (slice_index g i) ((mod_ops f.prime).neg (cond (i == k) 1 0)))
+      → x ≡ frobenius_column (mod_ops f.prime) f.prime f.coefficients k
+  column_from_power k g x l power v at =
+      Congruences.column_from_places (residues_propositional f.prime) F (f.coefficients, whole.polynomial) not_constant monic f.prime k
+      (trim o g) x (Carriers.trim_polynomial (residues_propositional f.prime) F.ring g power.residues) v
+      (Congruences.reduced_trim (residues_propositional f.prime) F (f.coefficients, whole.polynomial) not_constant monic g power.residues ∙ power.power)
+      (λ i. ⊎_elim (λ li. at i li) (λ li. past i li) (cases_lt i (degree f.coefficients))
+      ∙ ap (λ a. o.add a (o.neg (cond (i == k) 1 0))) (sym (Carriers.trim_at (residues_propositional f.prime) F.ring g i power.residues)))
     where
-      F : IsField (residues f.prime)
-      F = residues_field f.prime whole.characteristic
-
-      past : (i : ℕ) → degree f.coefficients ≤ i
-          → slice_index x i ≡ (mod_ops f.prime).add (slice_index g.coefficients i) ((mod_ops f.prime).neg (cond (i == k) 1 0))
+      past : (i : ℕ) → degree f.coefficients ≤ i → slice_index x i ≡ o.add (slice_index g i) (o.neg (cond (i == k) 1 0))
       past i li =
-          let s : length g.coefficients < length f.coefficients = pg.shorter in
-          get_or_past x i 0 (omega (arith, vx.0))
-          ∙ sym (ap₂ (λ a b. (mod_ops f.prime).add a ((mod_ops f.prime).neg (cond b 1 0))) (get_or_past g.coefficients i 0 (omega arith)) (ne_eqb i k (omega arith))
+          get_or_past x i 0 (omega (arith, v.0))
+          ∙ sym (ap₂ (λ a b. o.add a (o.neg (cond b 1 0))) (get_or_past g i 0 (omega (arith, power.short))) (ne_eqb i k (omega arith))
           ∙ F.ring.add_neg 0 F.ring.zero_valid)

@@ -5,9 +5,11 @@
 --     IsCofactor c f g q       f = q * g, both smaller than f
 --     coefficients_of fs       the coefficients of each polynomial of a list
 --     AreOver p fs             each polynomial of a list is over the residues modulo p
---     IsPowerOfVariable f k g  g is x^(k p) modulo f, shorter than f
+--     IsPowerOfVariable f k c  c are coefficients of x^(k p) modulo f, no more than deg f
+--     residues_modulo p xs     the numbers xs modulo p
+--     ArePlacesOfPower f e xs  the numbers xs are modulo p the deg f coefficients of x^e modulo f
 --     Collects f old new       the irreducible factors of f were put into an ordered list
-use Rattle.std.specs.Prelude.{◌≡◌, ◌≢◌, ℕ, ◌+◌, ◌*◌, ◌<◌, ◌≤◌, List, [], ◌∷◌, length, map, All}
+use Rattle.std.specs.Prelude.{◌≡◌, ◌≢◌, ℕ, ◌+◌, ◌*◌, ◌%◌, ◌<◌, ◌≤◌, List, [], ◌∷◌, length, map, All}
 use Rattle.std.specs.List.Sorted.{IsSorted}
 use Rattle.std.specs.Ordering.{nat_cmp}
 use Rattle.ff_model.specs.Coefficients.{Carrier, residues, mod_ops}
@@ -50,11 +52,18 @@ coefficients_of fs = map (λ f. f.coefficients) fs
 abbrev pub AreOver : ℕ → List Polynomial → Type 0
 AreOver p fs = All (λ f. f.prime ≡ p) fs
 
-pub record IsPowerOfVariable (f : Polynomial) (k : ℕ) (g : Polynomial) : Type 0 where
-  pub prime : g.prime ≡ f.prime
-  pub shorter : length g.coefficients < length f.coefficients
+pub record IsPowerOfVariable (f : Polynomial) (k : ℕ) (c : List ℕ) : Type 0 where
+  pub residues : All (λ x. x < f.prime) c
+  pub short : length c ≤ degree f.coefficients
   pub power : let o = mod_ops f.prime in
-      reduced o f.coefficients g.coefficients ≡ reduced o f.coefficients (poly_power o (0 ∷ 1 ∷ []) (k * f.prime))
+      reduced o f.coefficients c ≡ reduced o f.coefficients (poly_power o (0 ∷ 1 ∷ []) (k * f.prime))
+
+abbrev pub residues_modulo : ℕ → List ℕ → List ℕ
+residues_modulo p xs = map (λ x. x % p) xs
+
+abbrev pub ArePlacesOfPower : Polynomial → ℕ → List ℕ → Type 0
+ArePlacesOfPower f e xs = let o = mod_ops f.prime in
+    residues_modulo f.prime xs ≡ reduced o f.coefficients (poly_power o (0 ∷ 1 ∷ []) e)
 
 pub record Collects (f : Polynomial) (old new : List Polynomial) : Type 0 where
   pub primes : AreOver f.prime new

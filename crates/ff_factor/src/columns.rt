@@ -1,18 +1,18 @@
 //! The matrix of `v -> v^p - v` on the polynomials modulo `f`.
-ghost use Rattle.std.specs.Prelude.{◌≡◌, ℕ, ◌+◌, ◌-◌, ◌*◌, ◌<◌, ◌≤◌, ◌==◌, if◌then◌else◌, length, map, slice_index};
+ghost use Rattle.std.specs.Prelude.{◌≡◌, ℕ, ◌+◌, ◌-◌, ◌*◌, ◌^◌, ◌<◌, ◌≤◌, ◌==◌, if◌then◌else◌, ◌∷◌, length, replicate, map, All, slice_index};
 ghost use Rattle.std.specs.List.{range_with_len};
 ghost use Rattle.ff_model.specs.Coefficients.{residues, mod_ops};
 ghost use Rattle.ff_model.specs.Factors.{IsMonic};
-ghost use Rattle.ff_model.specs.Values.{degree};
+ghost use Rattle.ff_model.specs.Values.{degree, times_x};
 ghost use Rattle.ff_model.specs.Matrices.{IsColumn};
 ghost use Rattle.ff_poly.specs.Polynomial.{IsPoly};
 ghost use Rattle.ff_factor.specs.Certificates.{frobenius_column, berlekamp_matrix};
-ghost use Rattle.ff_factor.specs.Splitting.{IsPowerOfVariable};
+ghost use Rattle.ff_factor.specs.Splitting.{IsPowerOfVariable, ArePlacesOfPower, residues_modulo};
 
-use crate::polynomials::{constant, product_modulo, variable};
+use crate::polynomials::variable;
 use arrayvec::ArrayVec;
 use ff_matrix::{Column, Matrix};
-use ff_poly::{MAX_DEGREE, Poly};
+use ff_poly::{MAX_DEGREE, Poly, Prime};
 
 /// The columns 1 to `n - 1` of the matrix, for `f` of degree `n`; each power of `x^p` is made from the one before.
 pub(crate) fn frobenius_matrix(f: &Poly) -> Matrix
@@ -26,7 +26,7 @@ pub(crate) fn frobenius_matrix(f: &Poly) -> Matrix
     Matrix::of_columns(f.prime(), f.coefficients().len() - 1, columns.as_slice())
 }
 
-// The columns.
+// The columns, from the places of 1, x^p, x^(2 p), .. in turn.
 fn columns_in_turn(f: &Poly) -> ArrayVec<Column, MAX_DEGREE>
     requires monic { IsMonic (residues f.now.prime) f.now.coefficients }
     requires not_constant { 1 < length f.now.coefficients }
@@ -35,14 +35,77 @@ fn columns_in_turn(f: &Poly) -> ArrayVec<Column, MAX_DEGREE>
 {
     let p = f.prime();
     let degree = f.coefficients().len() - 1;
-    let step = power_of_variable(f, 1);
-    let mut power = constant(p, 1);
+    let mut places = places_of_one(degree);
     let mut columns = ArrayVec::new();
     for k in 1..degree {
-        power = product_modulo(&power, &step, f);
-        columns.push(gap_column(f, &power, k));
+        multiply_by_power(places.as_mut_slice(), f);
+        let power = residues_of_places(p, places.as_slice());
+        columns.push(gap_column(f, power.as_slice(), k));
     }
     columns
+}
+
+// The n places of 1.
+fn places_of_one(n: usize) -> ArrayVec<u32, MAX_DEGREE>
+    requires places { 0 < n }
+    requires room { n ≤ MAX_DEGREE }
+    ensures { result.items ≡ 1 ∷ replicate (n - 1) 0 }
+{
+    let mut places = ArrayVec::new();
+    places.push(1);
+    for _k in 1..n {
+        places.push(0);
+    }
+    places
+}
+
+// Multiplies by x^p modulo f.
+fn multiply_by_power(places: &mut [u32], f: &Poly)
+    requires monic { IsMonic (residues f.now.prime) f.now.coefficients }
+    requires not_constant { 1 < length f.now.coefficients }
+    requires places { length places.old ≡ degree f.now.coefficients }
+    requires small { All (λ x. x < 2 ^ 30) places.old }
+    ensures places { length places.new ≡ length places.old }
+    ensures growth { (b : ℕ) → All (λ x. x < b) places.old → All (λ x. x < b + 2 ^ 15) places.new }
+    ensures power { (e : ℕ) → ArePlacesOfPower f.now e places.old → ArePlacesOfPower f.now (e + f.now.prime) places.new }
+{
+    let p = f.prime();
+    for _k in 0..p.number() {
+        multiply_by_variable(places, f.coefficients(), p);
+    }
+}
+
+// Multiplies by x modulo f: shifts up by one, and adds the multiple of f that takes the top place off, modulo p.
+fn multiply_by_variable(places: &mut [u32], f: &[u8], p: Prime)
+    requires places { 0 < length places.old }
+    requires sizes { length f.now ≡ length places.old + 1 }
+    requires residues { All (λ x. x < p) f.now }
+    requires small { All (λ x. x < 2 ^ 31) places.old }
+    ensures places { length places.new ≡ length places.old }
+    ensures growth { (b : ℕ) → All (λ x. x < b) places.old → All (λ x. x < b + 2 ^ 10) places.new }
+    ensures product { residues_modulo p places.new ≡ times_x (mod_ops p) f.now (residues_modulo p places.old) }
+{
+    let number = p.number() as u32;
+    let multiple = number - places[places.len() - 1] % number;
+    let mut below = 0;
+    for i in 0..places.len() {
+        let place = places[i];
+        places[i] = below + multiple * f[i] as u32;
+        below = place;
+    }
+}
+
+// The places modulo p.
+fn residues_of_places(p: Prime, places: &[u32]) -> ArrayVec<u8, MAX_DEGREE>
+    requires { length places.now ≤ MAX_DEGREE }
+    ensures { result.items ≡ residues_modulo p places.now }
+{
+    let number = p.number() as u32;
+    let mut residues = ArrayVec::new();
+    for x in places {
+        residues.push((*x % number) as u8);
+    }
+    residues
 }
 
 /// The same matrix, each column from a power of its own.
@@ -68,7 +131,7 @@ fn columns_by_powers(f: &Poly) -> ArrayVec<Column, MAX_DEGREE>
     let mut columns = ArrayVec::new();
     for k in 1..degree {
         let power = power_of_variable(f, k);
-        columns.push(gap_column(f, &power, k));
+        columns.push(gap_column(f, power.coefficients(), k));
     }
     columns
 }
@@ -79,14 +142,14 @@ pub(crate) fn power_of_variable(f: &Poly, k: usize) -> Poly
     requires not_constant { 1 < length f.now.coefficients }
     requires degree { length f.now.coefficients ≤ MAX_DEGREE + 1 }
     requires factor { k ≤ MAX_DEGREE }
-    ensures { IsPowerOfVariable f.now k result }
+    ensures { IsPowerOfVariable f.now k result.coefficients }
 {
     let p = f.prime();
     variable(p).powmod(k as u64 * p.number() as u64, f)
 }
 
-/// The column of `x^(k p) - x^k`, from the remainder of `x^(k p)`.
-pub(crate) fn gap_column(f: &Poly, power: &Poly, k: usize) -> Column
+/// The column of `x^(k p) - x^k`, from coefficients of `x^(k p)` modulo `f`.
+pub(crate) fn gap_column(f: &Poly, power: &[u8], k: usize) -> Column
     requires monic { IsMonic (residues f.now.prime) f.now.coefficients }
     requires not_constant { 1 < length f.now.coefficients }
     requires degree { length f.now.coefficients ≤ MAX_DEGREE + 1 }
@@ -95,21 +158,18 @@ pub(crate) fn gap_column(f: &Poly, power: &Poly, k: usize) -> Column
     ensures value { result ≡ frobenius_column (mod_ops f.now.prime) f.now.prime f.now.coefficients k }
     ensures column { IsColumn (residues f.now.prime) (degree f.now.coefficients) result }
 {
-    let _prime = f.prime();
-    let numbers = gap_numbers(power, k, f.coefficients().len() - 1);
+    let numbers = gap_numbers(f.prime(), power, k, f.coefficients().len() - 1);
     Column::of_slice(numbers.as_slice())
 }
 
-// The first n coefficients, less 1 at place k.
-fn gap_numbers(power: &Poly, k: usize, n: usize) -> ArrayVec<u8, MAX_DEGREE>
+// The n numbers of power, or zeros after them, less 1 at place k.
+fn gap_numbers(p: Prime, power: &[u8], k: usize, n: usize) -> ArrayVec<u8, MAX_DEGREE>
     requires room { n ≤ MAX_DEGREE }
-    requires short { length power.now.coefficients ≤ n }
-    ensures whole { IsPoly power.now }
-    ensures column { IsColumn (residues power.now.prime) n result.items }
-    ensures places { let o = mod_ops power.now.prime in (i : ℕ) → i < n
-        → slice_index result.items i ≡ o.add (slice_index power.now.coefficients i) (o.neg (if i == k then 1 else 0)) }
+    requires residues { All (λ x. x < p) power.now }
+    ensures column { IsColumn (residues p) n result.items }
+    ensures places { let o = mod_ops p in (i : ℕ) → i < n
+        → slice_index result.items i ≡ o.add (slice_index power.now i) (o.neg (if i == k then 1 else 0)) }
 {
-    let p = power.prime();
     let _number = p.number();
     let mut numbers = ArrayVec::new();
     for i in 0..n {
@@ -119,15 +179,9 @@ fn gap_numbers(power: &Poly, k: usize, n: usize) -> ArrayVec<u8, MAX_DEGREE>
     numbers
 }
 
-// The coefficient at place i.
-fn place(f: &Poly, i: usize) -> u8
-    ensures value { result ≡ slice_index f.now.coefficients i }
-    ensures residue { result < f.now.prime }
+// The number at place i, or zero after the last.
+fn place(c: &[u8], i: usize) -> u8
+    ensures { result ≡ slice_index c.now i }
 {
-    let coefficients = f.coefficients();
-    if i < coefficients.len() {
-        coefficients[i]
-    } else {
-        0
-    }
+    if i < c.len() { c[i] } else { 0 }
 }

@@ -80,23 +80,3 @@ pub(crate) fn every(c: &[u8], step: usize) -> ArrayVec<u8, MAX_POLY>
     }
     numbers
 }
-
-/// The product modulo the monic `f`.
-pub(crate) fn product_modulo(a: &Poly, b: &Poly, f: &Poly) -> Poly
-    requires primes { (a.now.prime ≡ f.now.prime) × (b.now.prime ≡ f.now.prime) }
-    requires monic { IsMonic (residues f.now.prime) f.now.coefficients }
-    requires not_constant { 1 < length f.now.coefficients }
-    requires degree { length f.now.coefficients ≤ MAX_DEGREE + 1 }
-    requires short { (length a.now.coefficients ≤ MAX_DEGREE) × (length b.now.coefficients ≤ MAX_DEGREE) }
-    ensures whole { IsPoly a.now × IsPoly b.now }
-    ensures prime { result.prime ≡ f.now.prime }
-    ensures shorter { length result.coefficients < length f.now.coefficients }
-    ensures product { let o = mod_ops f.now.prime in
-        reduced o f.now.coefficients result.coefficients ≡ reduced o f.now.coefficients (poly_product o a.now.coefficients b.now.coefficients) }
-{
-    let _prime = f.prime();
-    let _first = a.prime();
-    let _second = b.prime();
-    let (_, rest) = a.mul(b).divrem(f);
-    rest
-}

@@ -1,0 +1,10 @@
+use Rattle.std.proofs.Common.{◌≡◌, ℕ, ◌+◌, ◌*◌, ◌<◌, ◌≤◌, ◌∷◌, length, slice_index}
+use Rattle.ff_factor.proofs.columns.multiply_by_variable.Given as goal
+
+abbrev pub invariant-loop-i : goal.invariant-loop-i
+invariant-loop-i l = record {
+  len : length l.places ≡ length l.initial.places;
+  below : l.below ≡ slice_index (0 ∷ l.initial.places) l.i;
+  done : (k : ℕ) → k < l.i → slice_index l.places k ≡ slice_index (0 ∷ l.initial.places) k + l.multiple * slice_index l.f k;
+  rest : (k : ℕ) → l.i ≤ k → slice_index l.places k ≡ slice_index l.initial.places k;
+}
