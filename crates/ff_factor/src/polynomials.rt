@@ -1,13 +1,10 @@
 //! Polynomials made from residues.
-ghost use Rattle.std.specs.Prelude.{◌≡◌, ℕ, ◌+◌, ◌*◌, ◌<◌, ◌≤◌, [], ◌∷◌, length, All, slice_index};
-ghost use Rattle.ff_model.specs.Coefficients.{mod_ops, residues};
-ghost use Rattle.ff_model.specs.Polynomials.{trim, poly_power, poly_product};
-ghost use Rattle.ff_model.specs.Factors.{IsMonic};
-ghost use Rattle.ff_model.specs.Values.{reduced};
-ghost use Rattle.ff_poly.specs.Polynomial.{IsPoly};
+ghost use Rattle.std.specs.Prelude.{◌≡◌, ℕ, ◌*◌, ◌<◌, ◌≤◌, [], ◌∷◌, length, All, slice_index};
+ghost use Rattle.ff_model.specs.Coefficients.{mod_ops};
+ghost use Rattle.ff_model.specs.Polynomials.{trim};
 
 use arrayvec::ArrayVec;
-use ff_poly::{MAX_DEGREE, MAX_POLY, Poly, Prime};
+use ff_poly::{MAX_POLY, Poly, Prime};
 
 /// The polynomial with these coefficients, lowest first; zeros at the end are dropped.
 pub(crate) fn poly_of(p: Prime, c: &[u8]) -> Poly
