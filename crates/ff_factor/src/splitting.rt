@@ -6,6 +6,7 @@ ghost use Rattle.ff_model.specs.Factors.{IsMonic, IsProperFactor, IsIrreducible,
 ghost use Rattle.ff_model.specs.Matrices.{matrix_product, identity_matrix, combination, zero_column, IsColumn, IsIndependent};
 ghost use Rattle.ff_model.specs.Values.{degree};
 ghost use Rattle.ff_poly.specs.Polynomial.{IsPoly};
+ghost use Rattle.ff_matrix.specs.Echelons.{IsEchelonOf};
 ghost use Rattle.ff_fields.specs.Fixed.{IsFixed, less_constant};
 ghost use Rattle.ff_factor.specs.Certificates.{Certifies, berlekamp_matrix};
 ghost use Rattle.ff_factor.specs.Splitting.{IsOutcome, IsKernelColumn};
@@ -13,7 +14,7 @@ ghost use Rattle.ff_factor.specs.Splitting.{IsOutcome, IsKernelColumn};
 use crate::Cert;
 use crate::columns::frobenius_matrix;
 use crate::polynomials::{constant, every, poly_of, without_constant};
-use ff_matrix::{Column, Matrix};
+use ff_matrix::{Column, Echelon, Matrix};
 use ff_poly::{MAX_DEGREE, Poly};
 
 /// What is found out about a polynomial.
@@ -46,9 +47,10 @@ pub(crate) fn split(f: &Poly) -> Outcome
         return Outcome::Divisor(bezout.g);
     }
     let matrix = frobenius_matrix(f);
-    match matrix.left_inverse() {
+    let echelon = matrix.echelon();
+    match echelon.left_inverse() {
         Some(left) => Outcome::Irreducible(certificate(f, bezout.u, bezout.w, left)),
-        None => Outcome::Divisor(split_by_column(f, &kernel_column(&matrix))),
+        None => Outcome::Divisor(split_by_column(f, &kernel_column(&matrix, &echelon))),
     }
 }
 
@@ -86,13 +88,14 @@ fn certificate(f: &Poly, u: Poly, w: Poly, left: Matrix) -> Cert
     Cert { u, w, left }
 }
 
-// A column that isn't zero and that the matrix sends to zero.
-fn kernel_column(m: &Matrix) -> Column
-    requires { IsIndependent (residues m.now.prime) m.now.matrix.rows m.now.matrix.columns → ⊥ }
+// A column that isn't zero and that the matrix with this form sends to zero.
+fn kernel_column(m: &Matrix, echelon: &Echelon) -> Column
+    requires echelon { IsEchelonOf m.now echelon.now }
+    requires dependent { IsIndependent (residues m.now.prime) m.now.matrix.rows m.now.matrix.columns → ⊥ }
     ensures { IsKernelColumn m.now.prime m.now.matrix result }
 {
     let _prime = m.prime();
-    let basis = m.kernel();
+    let basis = echelon.kernel();
     basis.items()[0].copy()
 }
 

@@ -51,6 +51,6 @@ certificate-requires-clause-left_inverse c =
     let m = c.frobenius_matrix-matrix.ensures in
     let long = length-map-range_with_len (frobenius_column (mod_ops p) p f) 1 (degree f - 1) in
     sym (ap₂ (λ q b. matrix_product (mod_ops q) c.in-Some.left.matrix b) m.prime m.matrix)
-    ∙ c.in-Some.ensures.some.2
+    ∙ (c.in-Some.ensures.some c.frobenius_matrix-matrix.result c.echelon-echelon.ensures).2
     ∙ ap₂ (λ q b. identity_matrix (mod_ops q) (length b.columns)) m.prime m.matrix
     ∙ ap (identity_matrix (mod_ops p)) long
