@@ -60,15 +60,62 @@ fn expect_solo(
     held: &[u8],
 ) -> Result<(), Fail> {
     let solo = words(alloc, &["solo"])?;
-    expect(
-        rt,
-        &solo,
-        source(alloc, input, 100, &[])?,
-        sink(alloc, 1000, 100, &[])?,
-        alloc,
-        status,
-        held,
-    );
+    let source = source(alloc, input, 100, &[])?;
+    let sink = sink(alloc, 1000, 100, &[])?;
+    expect(rt, &solo, source, sink, alloc, status, held);
+    Ok(())
+}
+
+// Runs with words that aren't `solo` alone, into a sink of this room.
+fn expect_usage(
+    rt: &impl Abort,
+    alloc: Global,
+    texts: &[&str],
+    room: usize,
+    status: u8,
+    held: &[u8],
+) -> Result<(), Fail> {
+    let words = words(alloc, texts)?;
+    let source = source(alloc, QUADRATIC, 100, &[])?;
+    let sink = sink(alloc, room, 100, &[])?;
+    expect(rt, &words, source, sink, alloc, status, held);
+    Ok(())
+}
+
+// Plays one declaration from a source in such pieces, whose calls of these numbers fail.
+fn expect_read(
+    rt: &impl Abort,
+    alloc: Global,
+    piece: usize,
+    fails: &[u32],
+    status: u8,
+    held: &[u8],
+) -> Result<(), Fail>
+    requires { 1 ≤ piece }
+{
+    let solo = words(alloc, &["solo"])?;
+    let source = source(alloc, QUADRATIC, piece, fails)?;
+    let sink = sink(alloc, 1000, 100, &[])?;
+    expect(rt, &solo, source, sink, alloc, status, held);
+    Ok(())
+}
+
+// Plays one declaration into a sink of this room that takes such pieces, whose calls of these numbers fail.
+fn expect_write(
+    rt: &impl Abort,
+    alloc: Global,
+    room: usize,
+    piece: usize,
+    fails: &[u32],
+    status: u8,
+    held: &[u8],
+) -> Result<(), Fail>
+    requires { 1 ≤ piece }
+{
+    let solo = words(alloc, &["solo"])?;
+    let source = source(alloc, QUADRATIC, 100, &[])?;
+    let sink = sink(alloc, room, piece, fails)?;
+    expect(rt, &solo, source, sink, alloc, status, held);
     Ok(())
 }
 
@@ -129,132 +176,27 @@ fn plays_more_scripts(rt: HostRuntime) -> Result<(), Fail> {
 #[test]
 fn refuses_other_words(rt: HostRuntime) -> Result<(), Fail> {
     let alloc = rt.alloc();
-    let help = words(alloc, &["--help"])?;
-    let more = words(alloc, &["solo", "x"])?;
-    let none = words(alloc, &[])?;
-    let empty = words(alloc, &[""])?;
-    expect(
-        &rt,
-        &help,
-        source(alloc, QUADRATIC, 100, &[])?,
-        sink(alloc, 1000, 100, &[])?,
-        alloc,
-        2,
-        USAGE,
-    );
-    expect(
-        &rt,
-        &more,
-        source(alloc, QUADRATIC, 100, &[])?,
-        sink(alloc, 1000, 100, &[])?,
-        alloc,
-        2,
-        USAGE,
-    );
-    expect(
-        &rt,
-        &none,
-        source(alloc, QUADRATIC, 100, &[])?,
-        sink(alloc, 1000, 100, &[])?,
-        alloc,
-        2,
-        USAGE,
-    );
-    expect(
-        &rt,
-        &empty,
-        source(alloc, QUADRATIC, 100, &[])?,
-        sink(alloc, 1000, 100, &[])?,
-        alloc,
-        2,
-        USAGE,
-    );
-    expect(
-        &rt,
-        &help,
-        source(alloc, QUADRATIC, 100, &[])?,
-        sink(alloc, 3, 100, &[])?,
-        alloc,
-        5,
-        b"usa",
-    );
-    Ok(())
+    expect_usage(&rt, alloc, &["--help"], 1000, 2, USAGE)?;
+    expect_usage(&rt, alloc, &["solo", "x"], 1000, 2, USAGE)?;
+    expect_usage(&rt, alloc, &[], 1000, 2, USAGE)?;
+    expect_usage(&rt, alloc, &[""], 1000, 2, USAGE)?;
+    expect_usage(&rt, alloc, &["--help"], 3, 5, b"usa")
 }
 
 #[test]
 fn meets_failing_sources(rt: HostRuntime) -> Result<(), Fail> {
     let alloc = rt.alloc();
-    let solo = words(alloc, &["solo"])?;
-    expect(
-        &rt,
-        &solo,
-        source(alloc, QUADRATIC, 1, &[])?,
-        sink(alloc, 1000, 100, &[])?,
-        alloc,
-        0,
-        QUADRATIC_TEXT,
-    );
-    expect(
-        &rt,
-        &solo,
-        source(alloc, QUADRATIC, 100, &[1])?,
-        sink(alloc, 1000, 100, &[])?,
-        alloc,
-        4,
-        b"",
-    );
-    expect(
-        &rt,
-        &solo,
-        source(alloc, QUADRATIC, 1, &[3])?,
-        sink(alloc, 1000, 100, &[])?,
-        alloc,
-        4,
-        b"",
-    );
+    expect_read(&rt, alloc, 1, &[], 0, QUADRATIC_TEXT)?;
+    expect_read(&rt, alloc, 100, &[1], 4, b"")?;
+    expect_read(&rt, alloc, 1, &[3], 4, b"")?;
     // after the last byte
-    expect(
-        &rt,
-        &solo,
-        source(alloc, QUADRATIC, 100, &[2])?,
-        sink(alloc, 1000, 100, &[])?,
-        alloc,
-        4,
-        b"",
-    );
-    Ok(())
+    expect_read(&rt, alloc, 100, &[2], 4, b"")
 }
 
 #[test]
 fn meets_failing_sinks(rt: HostRuntime) -> Result<(), Fail> {
     let alloc = rt.alloc();
-    let solo = words(alloc, &["solo"])?;
-    expect(
-        &rt,
-        &solo,
-        source(alloc, QUADRATIC, 100, &[])?,
-        sink(alloc, 1000, 1, &[])?,
-        alloc,
-        0,
-        QUADRATIC_TEXT,
-    );
-    expect(
-        &rt,
-        &solo,
-        source(alloc, QUADRATIC, 100, &[])?,
-        sink(alloc, 10, 100, &[])?,
-        alloc,
-        5,
-        b"ok field 1",
-    );
-    expect(
-        &rt,
-        &solo,
-        source(alloc, QUADRATIC, 100, &[])?,
-        sink(alloc, 1000, 5, &[2])?,
-        alloc,
-        5,
-        b"ok fi",
-    );
-    Ok(())
+    expect_write(&rt, alloc, 1000, 1, &[], 0, QUADRATIC_TEXT)?;
+    expect_write(&rt, alloc, 10, 100, &[], 5, b"ok field 1")?;
+    expect_write(&rt, alloc, 1000, 5, &[2], 5, b"ok fi")
 }
