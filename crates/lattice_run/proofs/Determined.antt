@@ -14,8 +14,8 @@ use Rattle.lat_script.specs.declared.replies.StepRefusal.TheVariants.{Coefficien
 use Rattle.lat_script.specs.declared.replies.Outcome.TheVariants.{Changed}
 use Rattle.lat_script.specs.Texts.{line_text, bad_line_text}
 use Rattle.lat_script.proofs.GrammarLemmas.{script_unique, fault_unique, never_both}
-use Rattle.lattice_run.specs.Lattice.{FieldRow, IsFirstTooLarge, IsWellFormed, IsMalformed, Renames, Declares, opening}
-use Rattle.lattice_run.specs.Lattice.Renames.{same, other}
+use Rattle.lattice_run.specs.Lattice.{FieldRow, IsFirstTooLarge, IsWellFormed, IsMalformed, AnswersTakenName, Declares, opening}
+use Rattle.lattice_run.specs.Lattice.AnswersTakenName.{same, other}
 use Rattle.lattice_run.specs.Lattice.Declares.{malformed, named, reducible, full, declared}
 use Rattle.lattice_run.specs.Lattice.IsMalformed.{not_in_table, degree_out_of_range, coefficient_too_large, not_monic}
 use Rattle.lattice_run.specs.Transcript.{PlaysOne, Plays, IsTranscript}
@@ -40,11 +40,11 @@ first_same {p} {f} {i} {j} a b = elim (cases_order i j) [
   ]
 ]
 
-renames_one : {row : FieldRow} {p : ℕ} {f : List ℕ} {n : ℕ} {r s : Reply} → Renames row p f n r → Renames row p f n s → r ≡ s
-renames_one (same a b e) (same c d k) = e ∙ sym k
-renames_one (same a b e) (other h k) = absurd (h (a, b))
-renames_one (other h e) (same a b k) = absurd (h (a, b))
-renames_one (other h e) (other l k) = e ∙ sym k
+taken_name_one : {row : FieldRow} {p : ℕ} {f : List ℕ} {n : ℕ} {r s : Reply} → AnswersTakenName row p f n r → AnswersTakenName row p f n s → r ≡ s
+taken_name_one (same a b e) (same c d k) = e ∙ sym k
+taken_name_one (same a b e) (other h k) = absurd (h (a, b))
+taken_name_one (other h e) (same a b k) = absurd (h (a, b))
+taken_name_one (other h e) (other l k) = e ∙ sym k
 
 malformed_not_well : {p : ℕ} {f : List ℕ} {r : StepRefusal} → IsMalformed p f r → IsWellFormed p f → ⊥
 malformed_not_well (not_in_table h e) w = h w.characteristic
@@ -81,7 +81,7 @@ declares_one (named b1 n1 row1 i1 g1 rn1 k1) (malformed x2 m2 e2 k2) = absurd (m
 declares_one {p = p} {f = f} {s = s} (named b1 n1 row1 i1 g1 rn1 k1) (named b2 n2 row2 i2 g2 rn2 k2) =
     let same-n : n2 ≡ n1 = some_same (sym i2 ∙ i1) in
     let same-row : row2 ≡ row1 = some_same (sym g2 ∙ ap (slice_get _) same-n ∙ g1) in
-    (renames_one rn1 (subst (λ m. Renames row1 p f m s) same-n (subst (λ w. Renames w p f n2 s) same-row rn2)), k1 ∙ sym k2)
+    (taken_name_one rn1 (subst (λ m. AnswersTakenName row1 p f m s) same-n (subst (λ w. AnswersTakenName w p f n2 s) same-row rn2)), k1 ∙ sym k2)
 declares_one (named b1 n1 row1 i1 g1 rn1 k1) (reducible b2 i2 g2 l2 e2 k2) = absurd (some_not_none i1 i2)
 declares_one (named b1 n1 row1 i1 g1 rn1 k1) (full b2 i2 l2 m2 e2 k2) = absurd (some_not_none i1 i2)
 declares_one (named b1 n1 row1 i1 g1 rn1 k1) (declared b2 i2 l2 m2 e2 k2) = absurd (some_not_none i1 i2)

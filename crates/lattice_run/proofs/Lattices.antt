@@ -1,12 +1,12 @@
 -- Declaring keeps the lattice one of fields.
-use Rattle.std.proofs.Common.{◌≡◌, ◌≢◌, ℕ, List, [], ◌∷◌, ◌++◌, ◌<◌, ◌≤◌, lit<, lit≤, arith, ◌∙◌, zero, suc, sym, ap, subst, refl, None, Bool, true, false, length, take, codes, decimal, if◌then◌else◌}
+use Rattle.std.proofs.Common.{◌≡◌, ◌≢◌, ℕ, List, [], ◌∷◌, ◌++◌, ◌<◌, ◌≤◌, lit<, lit≤, arith, ◌∙◌, zero, suc, sym, ap, subst, refl, None, Bool, true, false, length, take, drop, All, codes, decimal, if◌then◌else◌}
 use Rattle.std.proofs.lemmas.Grind.{common_steps}
 use Rattle.std.specs.Prelude.{bytes_eq, slice_index_or}
 use Rattle.std.specs.List.{AllPairs, position_or_len}
 use Rattle.std.specs.List.Sorted.{IsStrictlyIncreasing}
 use Rattle.std.proofs.lemmas.Bool.Decides.{not_from_Decides}
 use Rattle.std.proofs.lemmas.Fmt.{decimal_injective}
-use Rattle.std.proofs.lemmas.List.{append_cancel_left, take-append-le, get_or-map}
+use Rattle.std.proofs.lemmas.List.{append_cancel_left, take-append-le, drop-append-le, get_or-map}
 use Rattle.std.proofs.lemmas.List.Kept.{AllPairs-from_increasing}
 use Rattle.std.proofs.lemmas.List.Elements.{All-map, All-append, All-cons, All-nil, All-contains_itself}
 use Rattle.std.proofs.lemmas.List.Quantifiers.{all_pairs_push}
@@ -14,16 +14,17 @@ use Rattle.std.proofs.lemmas.List.Sums.{fails_before_first}
 use Rattle.std.proofs.lemmas.Slice.Eq.{bytes_eq-Decides}
 use Rattle.ff_model.specs.Coefficients.{residues, primes, IsCharacteristic}
 use Rattle.ff_model.specs.Factors.{IsIrreducible}
+use Rattle.ff_model.specs.Values.{degree}
 use Rattle.ff_poly.specs.Polynomial.{Polynomial}
 use Rattle.lat_script.specs.declared.replies.Reply.{Reply}
 use Rattle.ff_poly.proofs.Characteristics.{characteristic_small}
-use Rattle.lattice_run.specs.Lattice.{FieldRow, IsField, IsLattice, IsWellFormed, Declares, opening, prime_field, field_named}
+use Rattle.lattice_run.specs.Lattice.{FieldRow, IsFieldRow, IsLattice, IsWellFormed, Declares, opening, prime_field, field_named}
 use Rattle.lattice_run.specs.Lattice.Declares.{malformed, named, reducible, full, declared}
 use Rattle.lattice_run.specs.declared.lattice.TheConstants.{MAX_FIELDS}
 use Rattle.lattice_run.proofs.Building.{well_formed_monic}
 
-prime_field_is_field : (p : ℕ) → IsCharacteristic p → IsField (prime_field p)
-prime_field_is_field p h =
+prime_field_is_field_row : (p : ℕ) → IsCharacteristic p → IsFieldRow (prime_field p)
+prime_field_is_field_row p h =
     let small : (1 < p) × (p < 32) = characteristic_small p h in
     record {
       characteristic = h;
@@ -69,7 +70,8 @@ opening_names i j d less within =
 pub opening_is_lattice : IsLattice opening
 opening_is_lattice = record {
   prime_fields = refl;
-  fields = All-map IsField prime_field primes (λ k d within. prime_field_is_field (slice_index_or primes k d) (All-contains_itself primes k d within));
+  fields = All-map IsFieldRow prime_field primes (λ k d within. prime_field_is_field_row (slice_index_or primes k d) (All-contains_itself primes k d within));
+  degrees = All-nil (λ row. 2 ≤ degree row.polynomial);
   names = opening_names;
   room = lit≤ tt;
 }
@@ -87,20 +89,27 @@ opening_fits rows l =
     let long : length (take (length primes) rows) ≡ length primes = ap (λ fields. length fields) l.prime_fields in
     grind (arith, common_steps)
 
+-- a field other than the prime fields
+abbrev IsFurtherRow : FieldRow → Type 0
+IsFurtherRow row = IsFieldRow row × (2 ≤ degree row.polynomial)
+
 -- one more field, of a name that finds none
-pub lattice_push : (rows : List FieldRow) (row : FieldRow) → IsLattice rows → IsField row → field_named rows row.name ≡ None
+pub lattice_push : (rows : List FieldRow) (row : FieldRow) → IsLattice rows → IsFurtherRow row → field_named rows row.name ≡ None
     → length rows < MAX_FIELDS → IsLattice (rows ++ row ∷ [])
 lattice_push rows row l field none room = record {
   prime_fields = take-append-le (length primes) rows (row ∷ []) (opening_fits rows l) ∙ l.prime_fields;
-  fields = All-append IsField rows (row ∷ []) l.fields (All-cons IsField row [] field (All-nil IsField));
+  fields = All-append IsFieldRow rows (row ∷ []) l.fields (All-cons IsFieldRow row [] field.0 (All-nil IsFieldRow));
+  degrees = subst (All (λ row. 2 ≤ degree row.polynomial)) (sym (drop-append-le (length primes) rows (row ∷ []) (opening_fits rows l)))
+      (All-append (λ row. 2 ≤ degree row.polynomial) (drop (length primes) rows) (row ∷ []) l.degrees
+      (All-cons (λ row. 2 ≤ degree row.polynomial) row [] field.1 (All-nil (λ row. 2 ≤ degree row.polynomial))));
   names = all_pairs_push (λ row other. row.name ≢ other.name) rows row l.names (unnamed rows row.name none);
   room = grind (arith, common_steps);
 }
 
 pub well_formed_field : (name : List ℕ) (p : ℕ) (f : List ℕ) → IsWellFormed p f → IsIrreducible (residues p) f
-    → IsField (record { name = name; characteristic = p; polynomial = f })
+    → IsFurtherRow (record { name = name; characteristic = p; polynomial = f })
 well_formed_field name p f w irreducible =
-    record { characteristic = w.characteristic; monic = well_formed_monic p f w; irreducible = irreducible; degree = w.in_range.1 }
+    (record { characteristic = w.characteristic; monic = well_formed_monic p f w; irreducible = irreducible; degree = w.in_range.1 }, w.in_range.0)
 
 -- **declaring keeps the lattice one of fields**
 pub declaring_keeps : (rows new : List FieldRow) (name : List ℕ) (p : ℕ) (f : List ℕ) (reply : Reply) → IsLattice rows → Declares rows name p f reply new → IsLattice new
@@ -114,13 +123,13 @@ declaring_keeps rows new name p f reply l (declared w none irreducible have a mo
 
 -- a row was pushed, or there was no memory
 pub lattice_push_if : (b : Bool) (rows items : List FieldRow) (row : FieldRow) → items ≡ (if b then rows ++ row ∷ [] else rows)
-    → IsLattice rows → IsField row → field_named rows row.name ≡ None → length rows < MAX_FIELDS → IsLattice items
+    → IsLattice rows → IsFurtherRow row → field_named rows row.name ≡ None → length rows < MAX_FIELDS → IsLattice items
 lattice_push_if true rows items row e l field none room = subst IsLattice (sym e) (lattice_push rows row l field none room)
 lattice_push_if false rows items row e l field none room = subst IsLattice (sym e) l
 
 -- a field, from the polynomial that was made
 pub made_field : (name : List ℕ) (p : ℕ) (f : List ℕ) (g : Polynomial) → IsWellFormed p f × (g ≡ record { prime = p; coefficients = f })
-    → IsIrreducible (residues g.prime) g.coefficients → IsField (record { name = name; characteristic = g.prime; polynomial = g.coefficients })
+    → IsIrreducible (residues g.prime) g.coefficients → IsFurtherRow (record { name = name; characteristic = g.prime; polynomial = g.coefficients })
 made_field name p f g b irreducible =
-    subst (λ g. IsIrreducible (residues g.prime) g.coefficients → IsField (record { name = name; characteristic = g.prime; polynomial = g.coefficients }))
+    subst (λ g. IsIrreducible (residues g.prime) g.coefficients → IsFurtherRow (record { name = name; characteristic = g.prime; polynomial = g.coefficients }))
     (sym b.1) (λ i. well_formed_field name p f b.0 i) irreducible

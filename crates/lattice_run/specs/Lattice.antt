@@ -1,14 +1,16 @@
 -- The lattice: its list of fields, and what declaring a field answers and adds.
 --     FieldRow                  a field's name, characteristic and polynomial
---     IsField row               the polynomial is monic and irreducible over the residues modulo the characteristic
---     IsLattice rows            the prime fields first, then other fields, at most MAX_FIELDS, no two of one name
+--     IsFieldRow row            the characteristic is in the table, the polynomial monic and irreducible over it, of degree
+--                               at most MAX_DEGREE
+--     IsLattice rows            the prime fields first, then fields of degree 2 or more, at most MAX_FIELDS, no two of one
+--                               name
 --     opening                   the prime fields, which every lattice has first
 --     field_named rows name     the number of the field with this name, if there is one
 --     map_count rows            the number of stored maps
 --     IsWellFormed p f          what a field can be declared by, but for irreducibility
 --     IsMalformed p f refusal   why p and f are no such
 --     Declares rows name p f reply new     declaring answers this reply and leaves the fields new
-use Rattle.std.specs.Prelude.{◌≡◌, ◌≢◌, ℕ, ◌+◌, ◌-◌, ◌≤◌, ◌<◌, true, false, List, [], ◌∷◌, ◌++◌, map, length, take, codes, decimal, position, slice_get, slice_index, Option, Some, None, All}
+use Rattle.std.specs.Prelude.{◌≡◌, ◌≢◌, ℕ, ◌+◌, ◌-◌, ◌≤◌, ◌<◌, true, false, List, [], ◌∷◌, ◌++◌, map, length, take, drop, codes, decimal, position, slice_get, slice_index, Option, Some, None, All}
 use Rattle.std.specs.List.{AllPairs}
 use Rattle.std.specs.Prelude.{bytes_eq}
 use Rattle.std.specs.Ordering.{nat_cmp}
@@ -37,7 +39,7 @@ opening = map prime_field primes
 abbrev pub field_named : List FieldRow → List ℕ → Option ℕ
 field_named rows name = position (λ row. bytes_eq row.name name) rows
 
-pub record IsField (row : FieldRow) : Type 0 where
+pub record IsFieldRow (row : FieldRow) : Type 0 where
   pub characteristic : IsCharacteristic row.characteristic
   pub monic : IsMonic (residues row.characteristic) row.polynomial
   pub irreducible : IsIrreducible (residues row.characteristic) row.polynomial
@@ -45,7 +47,8 @@ pub record IsField (row : FieldRow) : Type 0 where
 
 pub record IsLattice (rows : List FieldRow) : Type 0 where
   pub prime_fields : take (length primes) rows ≡ opening
-  pub fields : All IsField rows
+  pub fields : All IsFieldRow rows
+  pub degrees : All (λ row. 2 ≤ degree row.polynomial) (drop (length primes) rows)
   pub names : AllPairs (λ row other. row.name ≢ other.name) rows
   pub room : length rows ≤ MAX_FIELDS
 
@@ -80,15 +83,15 @@ pub data IsMalformed (p : ℕ) (f : List ℕ) (refusal : StepRefusal) : Type 0 w
       → refusal ≡ NotMonic → IsMalformed p f refusal
 
 -- what is answered where field n, this one, has the name already
-pub data Renames (row : FieldRow) (p : ℕ) (f : List ℕ) (n : ℕ) (reply : Reply) : Type 0 where
-  same : row.characteristic ≡ p → row.polynomial ≡ f → reply ≡ Declared n true → Renames row p f n reply
-  other : ((row.characteristic ≡ p) × (row.polynomial ≡ f) → ⊥) → reply ≡ Refused (NameTaken n) → Renames row p f n reply
+pub data AnswersTakenName (row : FieldRow) (p : ℕ) (f : List ℕ) (n : ℕ) (reply : Reply) : Type 0 where
+  same : row.characteristic ≡ p → row.polynomial ≡ f → reply ≡ Declared n true → AnswersTakenName row p f n reply
+  other : ((row.characteristic ≡ p) × (row.polynomial ≡ f) → ⊥) → reply ≡ Refused (NameTaken n) → AnswersTakenName row p f n reply
 
 -- One constructor for each case, in the order in which they are decided.
 pub data Declares (rows : List FieldRow) (name : List ℕ) (p : ℕ) (f : List ℕ) (reply : Reply) (new : List FieldRow) : Type 0 where
   malformed : (refusal : StepRefusal) → IsMalformed p f refusal → reply ≡ Refused refusal → new ≡ rows → Declares rows name p f reply new
   named : IsWellFormed p f → (n : ℕ) (row : FieldRow) → field_named rows name ≡ Some n → slice_get rows n ≡ Some row
-      → Renames row p f n reply → new ≡ rows → Declares rows name p f reply new
+      → AnswersTakenName row p f n reply → new ≡ rows → Declares rows name p f reply new
   reducible : IsWellFormed p f → field_named rows name ≡ None → (g : List ℕ) → IsLeastFactor (residues p) nat_cmp f g
       → reply ≡ Refused (Reducible (record { prime = p; coefficients = g })) → new ≡ rows → Declares rows name p f reply new
   full : IsWellFormed p f → field_named rows name ≡ None → IsIrreducible (residues p) f → MAX_FIELDS < length rows + 1

@@ -5,7 +5,7 @@ ghost use Rattle.std.specs.Ordering.{nat_cmp};
 ghost use Rattle.ff_model.specs.Coefficients.{IsCharacteristic, residues};
 ghost use Rattle.ff_model.specs.Factors.{IsIrreducible, IsLeastFactor};
 ghost use Rattle.lat_script.specs.declared.replies.Reply.{Reply};
-ghost use Rattle.lattice_run.specs.Lattice.{opening, field_named, prime_field, map_count, FieldRow, IsLattice, IsFirstTooLarge, IsWellFormed, IsMalformed, Renames, Declares};
+ghost use Rattle.lattice_run.specs.Lattice.{opening, field_named, prime_field, map_count, FieldRow, IsLattice, IsFirstTooLarge, IsWellFormed, IsMalformed, AnswersTakenName, Declares};
 
 use ff_factor::{Verdict, judge};
 use ff_poly::{CHARACTERISTICS, MAX_DEGREE, Poly, Prime};
@@ -34,7 +34,7 @@ impl Model for Row {
 impl Row {
     // The reply where a polynomial is declared under the name of this field, of this number.
     fn named_reply(&self, number: u32, polynomial: &Poly) -> Reply
-        ensures { Renames self.now polynomial.now.prime polynomial.now.coefficients number result }
+        ensures { AnswersTakenName self.now polynomial.now.prime polynomial.now.coefficients number result }
     {
         let same = self.polynomial.prime().number() == polynomial.prime().number()
             && self.polynomial.coefficients() == polynomial.coefficients();
@@ -49,7 +49,8 @@ impl Row {
     }
 }
 
-/// The fields of the lattice, by their numbers: the prime fields first, no two of one name, at most `MAX_FIELDS`.
+/// The fields of the lattice, by their numbers: the prime fields first, then fields of degree 2 to `MAX_DEGREE`, no two of
+/// one name, at most `MAX_FIELDS`.
 #[derive(Drop)]
 pub struct Lattice {
     rows: Vec<Row>,
