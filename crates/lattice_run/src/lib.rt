@@ -8,4 +8,4 @@ mod run;
 mod tests;
 
 pub use lattice::lattices_hold_fields;
-pub use run::{MAX_INPUT, one_answer, one_transcript, run_plain};
+pub use run::{MAX_INPUT, limits, one_answer, one_transcript, run_plain};

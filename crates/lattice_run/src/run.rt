@@ -9,6 +9,7 @@ ghost use Rattle.lat_script.specs.declared.commands.Command.{Command};
 ghost use Rattle.lat_script.specs.declared.commands.Script.{Script};
 ghost use Rattle.lat_script.specs.Grammar.{Spells};
 ghost use Rattle.lat_script.specs.Texts.{usage_text, too_long_text, bad_line_text};
+ghost use Rattle.lattice_run.specs.declared.lattice.TheConstants.{MAX_FIELDS};
 ghost use Rattle.lattice_run.specs.Answers.{IsSolo, Answers, IsInput};
 ghost use Rattle.lattice_run.specs.Runs.{Delivers, Ran};
 ghost use Rattle.lattice_run.specs.Transcript.{IsTranscript};
@@ -157,6 +158,11 @@ pub fn run_plain<S: Source, K: Sink>(
 {
     run(alloc, words, source, sink)
 }
+
+/// The limits, as numbers.
+pub fn limits()
+    ensures { (MAX_FIELDS ≡ 200) × (MAX_INPUT ≡ 1048576) }
+{}
 
 /// A script has one transcript.
 pub fn one_transcript()
