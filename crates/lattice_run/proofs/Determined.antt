@@ -1,4 +1,4 @@
--- A script has one transcript, and words and input have one answer.
+-- A script has at most one transcript, and words and input at most one answer.
 use Rattle.std.proofs.Common.{◌≡◌, ℕ, List, [], ◌∷◌, ◌++◌, ◌+◌, arith, ◌∙◌, sym, ap, ap₂, subst, refl, Some, None, Option, ◌<◌, ◌≤◌, inl, inr}
 use Rattle.std.specs.Prelude.{slice_get}
 use Rattle.std.proofs.lemmas.Bool.{cases_order}

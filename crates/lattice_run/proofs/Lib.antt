@@ -6,3 +6,4 @@ pub mod Playing
 pub mod Running
 pub mod Statuses
 pub mod Determined
+pub mod Existence

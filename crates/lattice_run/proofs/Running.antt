@@ -23,7 +23,7 @@ use Rattle.lattice_run.specs.Runs.Ran.{delivered, no_memory}
 pub not_solo : (b : Bool) → b ≡ true → b ≡ false → ⊥
 not_solo b t f = cc
 
-head_same : {x y : List ℕ} → x ∷ [] ≡ y ∷ [] → x ≡ y
+pub head_same : {x y : List ℕ} → x ∷ [] ≡ y ∷ [] → x ≡ y
 head_same e = cc
 
 pub one_word : {X : Type 0} (f : X → List ℕ) (words : List X) (w : X) (t text : List ℕ) (b : Bool) → 0 < length words → length words < 2

@@ -164,10 +164,11 @@ pub fn limits()
     ensures { (MAX_FIELDS ≡ 200) × (MAX_INPUT ≡ 1048576) }
 {}
 
-/// A script has one transcript.
+/// Each script has a transcript, and only one.
 pub fn one_transcript()
-    ensures { (commands : List Command) (text other : List ℕ) → IsTranscript commands text → IsTranscript commands other
+    ensures unique { (commands : List Command) (text other : List ℕ) → IsTranscript commands text → IsTranscript commands other
         → text ≡ other }
+    ensures exists { (commands : List Command) → (text : List ℕ) × IsTranscript commands text }
 {}
 
 /// Words and an input have one answer: its status and its text.
