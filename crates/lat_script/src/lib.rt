@@ -17,7 +17,7 @@ pub use commands::{Command, CommandList, MAX_COMMANDS, MAX_LINE, MAX_SCRIPT, Scr
 pub use faults::{NoMemory, ScriptFault};
 pub use names::{FieldName, MAX_NAME};
 pub use numerals::{Digits, MAX_DIGITS};
-pub use parsing::{one_reading, parse, printable_lines};
+pub use parsing::{limits, one_reading, parse, printable_lines};
 pub use replies::{Line, Outcome, Reply, StepRefusal};
 pub use texts::{add_bad_line, add_line, add_summary, add_too_long, add_usage};
 

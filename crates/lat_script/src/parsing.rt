@@ -4,6 +4,8 @@ ghost use Rattle.std.specs.Prelude.{◌≡◌, ◌⊎◌, ℕ, ◌≤◌, true, 
 ghost use Rattle.std.specs.Int.{IsInRange};
 ghost use Rattle.lat_script.specs.declared.commands.Command.{Command};
 ghost use Rattle.lat_script.specs.declared.commands.Script.{Script};
+ghost use Rattle.lat_script.specs.declared.names.TheConstants.{MAX_NAME};
+ghost use Rattle.lat_script.specs.declared.numerals.TheConstants.{MAX_DIGITS};
 ghost use Rattle.lat_script.specs.Grammar.{opening, words_of, IsPassedOver, header_words, SpellsCommand, Spells, FirstBad};
 ghost use Rattle.lat_script.specs.Parsing.{at_line, TakesLine, Reads};
 
@@ -166,4 +168,9 @@ pub fn one_reading()
 pub fn printable_lines()
     ensures header { (line : List ℕ) → words_of line ≡ header_words → All (IsInRange 32 126) line }
     ensures command { (line : List ℕ) (c : Command) → SpellsCommand (words_of line) c → All (IsInRange 32 126) line }
+{}
+
+/// The limits of the language, as numbers.
+pub fn limits()
+    ensures { (MAX_SCRIPT ≡ 1048576) × (MAX_LINE ≡ 4096) × (MAX_COMMANDS ≡ 20000) × (MAX_NAME ≡ 32) × (MAX_DIGITS ≡ 64) }
 {}
