@@ -5,3 +5,4 @@ pub mod DigitLemmas
 pub mod GrammarLemmas
 pub mod PieceLemmas
 pub mod PrintableLemmas
+pub mod Readings

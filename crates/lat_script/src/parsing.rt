@@ -157,11 +157,13 @@ pub fn parse(alloc: Global, bytes: &[u8]) -> Result<Script, ScriptFault>
     read(alloc, bytes)
 }
 
-/// No bytes have two readings: they spell at most one script, have at most one first fault, and never both.
+/// Bytes have one reading: they spell one script, or have one first fault, and never both.
 pub fn one_reading()
     ensures scripts { (bytes : List ℕ) (s t : Script) → Spells bytes s → Spells bytes t → s ≡ t }
     ensures faults { (bytes : List ℕ) (m n k l : ℕ) → FirstBad bytes m k → FirstBad bytes n l → (m ≡ n) × (k ≡ l) }
     ensures never_both { (bytes : List ℕ) (s : Script) (n k : ℕ) → Spells bytes s → FirstBad bytes n k → ⊥ }
+    ensures some { (bytes : List ℕ) → ((script : Script) × Spells bytes script)
+        ⊎ ((n : ℕ) × (kind : ℕ) × FirstBad bytes n kind) }
 {}
 
 /// A line that is the header or a command holds bytes from 32 to 126 only.
