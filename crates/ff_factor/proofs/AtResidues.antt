@@ -30,8 +30,8 @@ use Rattle.ff_poly.specs.Polynomial.{IsPoly}
 use Rattle.ff_poly.specs.Polynomial as poly
 use Rattle.ff_matrix.specs.ModularMatrix.{IsModularMatrix}
 use Rattle.ff_factor.specs.declared.certificates.Cert.{Cert}
-use Rattle.ff_factor.specs.Certificates.{frobenius_column, berlekamp_matrix, Certifies}
-use Rattle.ff_factor.specs.Splitting.{IsKernelColumn}
+use Rattle.ff_factor.specs.Certificates.{berlekamp_column, berlekamp_matrix, Certifies}
+use Rattle.ff_factor.specs.Splitting.{IsNonzeroKernelColumn}
 use Rattle.ff_factor.proofs.Certifying
 use Rattle.ff_factor.proofs.PowerRoots
 
@@ -144,7 +144,7 @@ module _ (p : ℕ) (h : IsCharacteristic p) where
 
   -- **the polynomial of a column that the matrix sends to zero**
   pub kernel_gives_fixed : (f x : List ℕ) (v : IsPolynomial (residues p) f) → IsMonic (residues p) f → 1 < length f
-      → IsKernelColumn p (berlekamp_matrix (mod_ops p) p f) x
+      → IsNonzeroKernelColumn p (berlekamp_matrix (mod_ops p) p f) x
       → IsPolynomial (residues p) (trim (mod_ops p) (0 ∷ x)) × (1 < length (trim (mod_ops p) (0 ∷ x))) × (length (trim (mod_ops p) (0 ∷ x)) < length f)
       × IsFixed (residues p) p f (trim (mod_ops p) (0 ∷ x))
   kernel_gives_fixed f x v m l k =
@@ -153,7 +153,7 @@ module _ (p : ℕ) (h : IsCharacteristic p) where
       let prime = IsPrime-characteristic p h in
       let characteristic = residues_characteristic p R in
       let fixed = (size_at_residues p h).fixed in
-      let long = length-map-range_with_len (frobenius_column (mod_ops p) p f) 1 (degree f - 1) in
+      let long = length-map-range_with_len (berlekamp_column (mod_ops p) p f) 1 (degree f - 1) in
       let vx : IsColumn (residues p) (degree f - 1) x = (k.column.0 ∙ long, k.column.1) in (
         Certifying.kernel_polynomial P F p prime characteristic fixed (f, v) l m x vx,
         Certifying.kernel_not_constant P F p prime characteristic fixed (f, v) l m x vx (λ z. k.not_zero (z ∙ ap (zero_column (mod_ops p)) (sym long))),

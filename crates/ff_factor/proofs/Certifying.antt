@@ -23,8 +23,8 @@ use Rattle.ff_fields.proofs.Frobenius.{IsPrime}
 use Rattle.ff_fields.proofs.Reduction.{zeros_at}
 use Rattle.ff_fields.proofs.Classes
 use Rattle.ff_fields.proofs.Remainders.{reduced_value}
-use Rattle.ff_factor.specs.Certificates.{frobenius_column, berlekamp_matrix}
-use Rattle.ff_factor.proofs.FrobeniusColumns.{variable, variable_polynomial}
+use Rattle.ff_factor.specs.Certificates.{berlekamp_column, berlekamp_matrix}
+use Rattle.ff_factor.proofs.BerlekampColumns.{variable, variable_polynomial}
 use Rattle.ff_factor.proofs.Criterion.{fixed_from_combination, combination_from_fixed}
 
 module _ {A : Type 0} {c : Carrier A} (P : IsPropositional c) (F : IsField c) (p : ℕ) (prime : IsPrime p)
@@ -32,9 +32,9 @@ module _ {A : Type 0} {c : Carrier A} (P : IsPropositional c) (F : IsField c) (p
     (fixed : (a : Element c) → power (element_ops F.ring) a p ≡ a)
     (f : Polynomial c) (not_constant : 1 < length f.0) (monic : IsMonic c f.0) where
   abbrev columns : List (List A)
-  columns = map (frobenius_column c.ops p f.0) (range_with_len 1 (degree f.0 - 1))
+  columns = map (berlekamp_column c.ops p f.0) (range_with_len 1 (degree f.0 - 1))
 
-  pub column_valid : (k : ℕ) → IsColumn c (degree f.0) (frobenius_column c.ops p f.0 k)
+  pub column_valid : (k : ℕ) → IsColumn c (degree f.0) (berlekamp_column c.ops p f.0 k)
   column_valid k =
       let x = variable c.ops in
       let vx = variable_polynomial P F in
@@ -46,10 +46,10 @@ module _ {A : Type 0} {c : Carrier A} (P : IsPropositional c) (F : IsField c) (p
       let v = reduced_value P F f not_constant monic g in (v.1, v.0)
 
   pub matrix_valid : IsMatrix c (berlekamp_matrix c.ops p f.0)
-  matrix_valid = All-map (IsColumn c (degree f.0)) (frobenius_column c.ops p f.0) (range_with_len 1 (degree f.0 - 1)) (λ k d l. column_valid _)
+  matrix_valid = All-map (IsColumn c (degree f.0)) (berlekamp_column c.ops p f.0) (range_with_len 1 (degree f.0 - 1)) (λ k d l. column_valid _)
 
   length_columns : length columns ≡ degree f.0 - 1
-  length_columns = length-map-range_with_len (frobenius_column c.ops p f.0) 1 (degree f.0 - 1)
+  length_columns = length-map-range_with_len (berlekamp_column c.ops p f.0) 1 (degree f.0 - 1)
 
   -- at most the constant coefficient is left of a list with zeros after it
   length_constant : (a : A) (k : ℕ) → c.Valid a → length (trim c.ops (a ∷ zero_column c.ops k)) ≤ 1
@@ -80,13 +80,13 @@ module _ {A : Type 0} {c : Carrier A} (P : IsPropositional c) (F : IsField c) (p
       let vws = All-tail c.Valid a ws vv.0 in
       let vxs : All c.Valid xs = All-append c.Valid ws (replicate (m - length ws) c.ops.zero) vws (All-replicate c.Valid (m - length ws) c.ops.zero F.ring.zero_valid) in
       let whole : trim c.ops (a ∷ xs) ≡ a ∷ ws = trim_padded_tail a ws (m - length ws) vv in
-      let sent : combination c.ops (degree f.0) (map (frobenius_column c.ops p f.0) (range_with_len 1 (length xs))) xs ≡ zero_column c.ops (degree f.0) =
+      let sent : combination c.ops (degree f.0) (map (berlekamp_column c.ops p f.0) (range_with_len 1 (length xs))) xs ≡ zero_column c.ops (degree f.0) =
       combination_from_fixed P F p prime characteristic fixed f not_constant monic a xs (All-cons c.Valid a xs (All-head c.Valid a ws vv.0) vxs)
       (subst (IsFixed c p f.0) (sym whole) h) in
       let none : xs ≡ zero_column c.ops m =
       subst (λ k. xs ≡ zero_column c.ops k) length_columns
       (independent xs (long ∙ sym length_columns, vxs)
-      (subst (λ k. combination c.ops (degree f.0) (map (frobenius_column c.ops p f.0) (range_with_len 1 k)) xs ≡ zero_column c.ops (degree f.0)) long sent)) in
+      (subst (λ k. combination c.ops (degree f.0) (map (berlekamp_column c.ops p f.0) (range_with_len 1 k)) xs ≡ zero_column c.ops (degree f.0)) long sent)) in
       subst (λ w. length w ≤ 1) (ap (λ t. trim c.ops (a ∷ t)) (sym none) ∙ whole) (length_constant a m (All-head c.Valid a ws vv.0))
 
   -- **independent columns**: what is fixed modulo f and shorter than f is constant
@@ -104,7 +104,7 @@ module _ {A : Type 0} {c : Carrier A} (P : IsPropositional c) (F : IsField c) (p
     pub kernel_fixed : combination c.ops (degree f.0) columns x ≡ zero_column c.ops (degree f.0) → IsFixed c p f.0 (trim c.ops (c.ops.zero ∷ x))
     kernel_fixed e =
         fixed_from_combination P F p prime characteristic fixed f not_constant monic c.ops.zero x vx
-        (ap (λ k. combination c.ops (degree f.0) (map (frobenius_column c.ops p f.0) (range_with_len 1 k)) x) v.0 ∙ e)
+        (ap (λ k. combination c.ops (degree f.0) (map (berlekamp_column c.ops p f.0) (range_with_len 1 k)) x) v.0 ∙ e)
 
     pub kernel_polynomial : IsPolynomial c (trim c.ops (c.ops.zero ∷ x))
     kernel_polynomial = Carriers.trim_polynomial P F.ring (c.ops.zero ∷ x) vx

@@ -25,8 +25,8 @@ use Rattle.ff_fields.proofs.Reduction.{length_reduced}
 use Rattle.ff_fields.proofs.ValueFields.{values_ring}
 use Rattle.ff_fields.proofs.Remainders.{reduced_equal, reduced_of_value, reduced_value, same_from_reduced, reduced_from_same}
 use Rattle.ff_fields.proofs.Generator.{product_with_x}
-use Rattle.ff_factor.specs.Certificates.{frobenius_column}
-use Rattle.ff_factor.proofs.FrobeniusColumns.{variable, variable_polynomial}
+use Rattle.ff_factor.specs.Certificates.{berlekamp_column}
+use Rattle.ff_factor.proofs.BerlekampColumns.{variable, variable_polynomial}
 use Rattle.ff_factor.proofs.Shifts.{length_times_x}
 
 module _ {A : Type 0} {c : Carrier A} (P : IsPropositional c) (F : IsField c) where
@@ -130,7 +130,7 @@ module _ {A : Type 0} {c : Carrier A} (P : IsPropositional c) (F : IsField c) wh
     -- **a column of v^p - v by its places**
     pub column_from_places : (p k : ℕ) (g x : List A) → IsPolynomial c g → IsColumn c (degree f.0) x → rest g ≡ rest (poly_power c.ops (variable c.ops) (k * p))
         → ((i : ℕ) → slice_index_or x i c.ops.zero ≡ c.ops.add (slice_index_or g i c.ops.zero) (c.ops.neg (cond (i == k) c.ops.one c.ops.zero)))
-        → x ≡ frobenius_column c.ops p f.0 k
+        → x ≡ berlekamp_column c.ops p f.0 k
     column_from_places p k g x vg v e at =
         sym (reduced_from_same P F f not_constant monic (Q.add (power_of (k * p)) (Q.neg (power_of k))) x (v.1, v.0)
         (Modulo.same_trans U.ring (Modulo.same_from_equal U.ring same)

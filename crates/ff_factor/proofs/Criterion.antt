@@ -16,8 +16,8 @@ use Rattle.ff_fields.proofs.Derivations.{polynomial_characteristic}
 use Rattle.ff_fields.proofs.Classes.{class_of}
 use Rattle.ff_fields.proofs.Remainders.{divides_iff_reduced}
 use Rattle.ff_fields.proofs.Certificates.{power_is}
-use Rattle.ff_factor.specs.Certificates.{frobenius_column}
-use Rattle.ff_factor.proofs.FrobeniusColumns
+use Rattle.ff_factor.specs.Certificates.{berlekamp_column}
+use Rattle.ff_factor.proofs.BerlekampColumns
 
 module _ {A : Type 0} {c : Carrier A} (P : IsPropositional c) (F : IsField c) (p : ℕ) (prime : IsPrime p)
     (characteristic : times (element_ops F.ring) p (element_ops F.ring).one ≡ (element_ops F.ring).zero)
@@ -28,7 +28,7 @@ module _ {A : Type 0} {c : Carrier A} (P : IsPropositional c) (F : IsField c) (p
 
   module _ (a : A) (xs : List A) (v : All c.Valid (a ∷ xs)) where
     abbrev sent : List A
-    sent = combination c.ops (degree f.0) (map (frobenius_column c.ops p f.0) (range_with_len 1 (length xs))) xs
+    sent = combination c.ops (degree f.0) (map (berlekamp_column c.ops p f.0) (range_with_len 1 (length xs))) xs
 
     abbrev gap : Polynomial c
     gap = Q.add (power Q (class_of P F.ring (a ∷ xs) v) p) (Q.neg (class_of P F.ring (a ∷ xs) v))
@@ -38,9 +38,9 @@ module _ {A : Type 0} {c : Carrier A} (P : IsPropositional c) (F : IsField c) (p
 
     pub fixed_from_combination : sent ≡ zero_column c.ops (degree f.0) → IsFixed c p f.0 (trim c.ops (a ∷ xs))
     fixed_from_combination e = subst (Divides c f.0) gap_is ((divides_iff_reduced P F f not_constant monic gap).1
-        (sym (FrobeniusColumns.columns_combination P F p f not_constant monic prime (polynomial_characteristic P F.ring p prime characteristic) fixed a xs v) ∙ e))
+        (sym (BerlekampColumns.columns_combination P F p f not_constant monic prime (polynomial_characteristic P F.ring p prime characteristic) fixed a xs v) ∙ e))
 
     pub combination_from_fixed : IsFixed c p f.0 (trim c.ops (a ∷ xs)) → sent ≡ zero_column c.ops (degree f.0)
     combination_from_fixed h =
-        FrobeniusColumns.columns_combination P F p f not_constant monic prime (polynomial_characteristic P F.ring p prime characteristic) fixed a xs v
+        BerlekampColumns.columns_combination P F p f not_constant monic prime (polynomial_characteristic P F.ring p prime characteristic) fixed a xs v
         ∙ (divides_iff_reduced P F f not_constant monic gap).0 (subst (Divides c f.0) (sym gap_is) h)

@@ -1,5 +1,5 @@
 pub mod Compositions
-pub mod FrobeniusColumns
+pub mod BerlekampColumns
 pub mod Insertion
 pub mod Factoring
 pub mod Collecting

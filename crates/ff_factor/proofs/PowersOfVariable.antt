@@ -12,7 +12,7 @@ use Rattle.ff_rings.proofs.ResidueFields.{residues_field, residues_propositional
 use Rattle.ff_rings.proofs.Carriers
 use Rattle.ff_fields.proofs.Remainders.{reduced_value, reduced_one}
 use Rattle.ff_poly.specs.Polynomial.{Polynomial, IsPoly}
-use Rattle.ff_factor.specs.Certificates.{frobenius_column}
+use Rattle.ff_factor.specs.Certificates.{berlekamp_column}
 use Rattle.ff_factor.specs.Splitting.{IsPowerOfVariable, ArePlacesOfPower, residues_modulo}
 use Rattle.ff_factor.proofs.Congruences
 use Rattle.ff_factor.proofs.Shifts.{residues_of_zeros}
@@ -74,7 +74,7 @@ module _ (f : Polynomial) (whole : IsPoly f) (monic : IsMonic (residues f.prime)
   -- **a column from the places of the power**
   pub column_from_power : (k : ℕ) (g x : List ℕ) → k < degree f.coefficients → IsPowerOfVariable f k g → IsColumn (residues f.prime) (degree f.coefficients) x
       → ((i : ℕ) → i < degree f.coefficients → slice_index x i ≡ (mod_ops f.prime).add (slice_index g i) ((mod_ops f.prime).neg (cond (i == k) 1 0)))
-      → x ≡ frobenius_column (mod_ops f.prime) f.prime f.coefficients k
+      → x ≡ berlekamp_column (mod_ops f.prime) f.prime f.coefficients k
   column_from_power k g x l power v at =
       Congruences.column_from_places (residues_propositional f.prime) F (f.coefficients, whole.polynomial) not_constant monic f.prime k
       (trim o g) x (Carriers.trim_polynomial (residues_propositional f.prime) F.ring g power.residues) v

@@ -1,6 +1,6 @@
 -- Berlekamp's criterion as a certificate: f of degree n is irreducible if it is coprime to its derivative, and the map
 -- v -> v^p - v on the polynomials modulo f has rank n - 1.
---     frobenius_column o p f k     x^(k p) - x^k modulo f, as a column of deg f places
+--     berlekamp_column o p f k     x^(k p) - x^k modulo f, as a column of deg f places
 --     berlekamp_matrix o p f       columns 1 to n - 1 of the matrix of v -> v^p - v on 1, x, .., x^(n - 1); column 0 is zero
 --     Certifies f cert             cert shows both
 use Rattle.std.specs.Prelude.{◌≡◌, ℕ, ◌-◌, ◌*◌, ◌≤◌, List, [], ◌∷◌, length, map}
@@ -14,12 +14,12 @@ use Rattle.ff_poly.specs.declared.TheConstants.{MAX_DEGREE}
 use Rattle.ff_factor.specs.declared.certificates.Cert.{Cert}
 
 module _ {A : Type 0} (o : Ops A) (p : ℕ) (f : List A) where
-  abbrev pub frobenius_column : ℕ → List A
-  frobenius_column k =
+  abbrev pub berlekamp_column : ℕ → List A
+  berlekamp_column k =
       let x = o.zero ∷ o.one ∷ [] in reduced o f (poly_difference o (poly_power o x (k * p)) (poly_power o x k))
 
   abbrev pub berlekamp_matrix : Matrix A
-  berlekamp_matrix = record { rows = degree f; columns = map frobenius_column (range_with_len 1 (degree f - 1)) }
+  berlekamp_matrix = record { rows = degree f; columns = map berlekamp_column (range_with_len 1 (degree f - 1)) }
 
 pub record Certifies (f : Polynomial) (cert : Cert) : Type 0 where
   pub primes : (cert.u.prime ≡ f.prime) × (cert.w.prime ≡ f.prime) × (cert.left.prime ≡ f.prime)

@@ -1,6 +1,6 @@
--- What the clauses of splitting and factoring speak of.
+-- What the clauses of splitting and factoring speak of. Of this module public clauses cite AreOver and coefficients_of alone.
 --     IsOutcome f s            a proper factor, or a certificate that there is none
---     IsKernelColumn p m x     a column that isn't zero and that m sends to zero
+--     IsNonzeroKernelColumn p m x     a column that isn't zero and that m sends to zero
 --     HasShape f cert          the parts of cert are over the prime of f and of the right sizes
 --     IsCofactor c f g q       f = q * g, both smaller than f
 --     coefficients_of fs       the coefficients of each polynomial of a list
@@ -29,7 +29,7 @@ abbrev pub IsOutcome : Polynomial → Outcome → Type 0
 IsOutcome f (Irreducible cert) = Certifies f cert × IsIrreducible (residues f.prime) f.coefficients
 IsOutcome f (Divisor g) = (g.prime ≡ f.prime) × IsProperFactor (residues f.prime) f.coefficients g.coefficients
 
-pub record IsKernelColumn (p : ℕ) (m : Matrix ℕ) (x : List ℕ) : Type 0 where
+pub record IsNonzeroKernelColumn (p : ℕ) (m : Matrix ℕ) (x : List ℕ) : Type 0 where
   pub column : IsColumn (residues p) (length m.columns) x
   pub sent : matrix_apply (mod_ops p) m x ≡ zero_column (mod_ops p) m.rows
   pub not_zero : x ≢ zero_column (mod_ops p) (length m.columns)

@@ -6,7 +6,7 @@ ghost use Rattle.ff_model.specs.Factors.{IsMonic};
 ghost use Rattle.ff_model.specs.Values.{degree, times_x};
 ghost use Rattle.ff_model.specs.Matrices.{IsColumn};
 ghost use Rattle.ff_poly.specs.Polynomial.{IsPoly};
-ghost use Rattle.ff_factor.specs.Certificates.{frobenius_column, berlekamp_matrix};
+ghost use Rattle.ff_factor.specs.Certificates.{berlekamp_column, berlekamp_matrix};
 ghost use Rattle.ff_factor.specs.Splitting.{IsPowerOfVariable, ArePlacesOfPower, residues_modulo};
 
 use crate::polynomials::variable;
@@ -15,7 +15,7 @@ use ff_matrix::{Column, Matrix};
 use ff_poly::{MAX_DEGREE, Poly, Prime};
 
 /// The columns 1 to `n - 1` of the matrix, for `f` of degree `n`; each power of `x^p` is made from the one before.
-pub(crate) fn frobenius_matrix(f: &Poly) -> Matrix
+pub(crate) fn matrix_in_turn(f: &Poly) -> Matrix
     requires monic { IsMonic (residues f.now.prime) f.now.coefficients }
     requires not_constant { 1 < length f.now.coefficients }
     requires degree { length f.now.coefficients ≤ MAX_DEGREE + 1 }
@@ -155,7 +155,7 @@ pub(crate) fn gap_column(f: &Poly, power: &[u8], k: usize) -> Column
     requires degree { length f.now.coefficients ≤ MAX_DEGREE + 1 }
     requires place { k < degree f.now.coefficients }
     requires power { IsPowerOfVariable f.now k power.now }
-    ensures value { result ≡ frobenius_column (mod_ops f.now.prime) f.now.prime f.now.coefficients k }
+    ensures value { result ≡ berlekamp_column (mod_ops f.now.prime) f.now.prime f.now.coefficients k }
     ensures column { IsColumn (residues f.now.prime) (degree f.now.coefficients) result }
 {
     let numbers = gap_numbers(f.prime(), power, k, f.coefficients().len() - 1);

@@ -9,10 +9,10 @@ ghost use Rattle.ff_poly.specs.Polynomial.{IsPoly};
 ghost use Rattle.ff_matrix.specs.Echelons.{IsEchelonOf};
 ghost use Rattle.ff_fields.specs.Fixed.{IsFixed, less_constant};
 ghost use Rattle.ff_factor.specs.Certificates.{Certifies, berlekamp_matrix};
-ghost use Rattle.ff_factor.specs.Splitting.{IsOutcome, IsKernelColumn};
+ghost use Rattle.ff_factor.specs.Splitting.{IsOutcome, IsNonzeroKernelColumn};
 
 use crate::Cert;
-use crate::columns::frobenius_matrix;
+use crate::columns::matrix_in_turn;
 use crate::polynomials::{constant, every, poly_of, without_constant};
 use ff_matrix::{Column, Echelon, Matrix};
 use ff_poly::{MAX_DEGREE, Poly};
@@ -46,7 +46,7 @@ pub(crate) fn split(f: &Poly) -> Outcome
     if bezout.g.coefficients().len() > 1 {
         return Outcome::Divisor(bezout.g);
     }
-    let matrix = frobenius_matrix(f);
+    let matrix = matrix_in_turn(f);
     let echelon = matrix.echelon();
     match echelon.left_inverse() {
         Some(left) => Outcome::Irreducible(certificate(f, bezout.u, bezout.w, left)),
@@ -92,7 +92,7 @@ fn certificate(f: &Poly, u: Poly, w: Poly, left: Matrix) -> Cert
 fn kernel_column(m: &Matrix, echelon: &Echelon) -> Column
     requires echelon { IsEchelonOf m.now echelon.now }
     requires dependent { IsIndependent (residues m.now.prime) m.now.matrix.rows m.now.matrix.columns → ⊥ }
-    ensures { IsKernelColumn m.now.prime m.now.matrix result }
+    ensures { IsNonzeroKernelColumn m.now.prime m.now.matrix result }
 {
     let _prime = m.prime();
     let basis = echelon.kernel();
@@ -103,7 +103,7 @@ fn kernel_column(m: &Matrix, echelon: &Echelon) -> Column
 fn split_by_column(f: &Poly, column: &Column) -> Poly
     requires monic { IsMonic (residues f.now.prime) f.now.coefficients }
     requires not_constant { 1 < length f.now.coefficients }
-    requires column { IsKernelColumn f.now.prime (berlekamp_matrix (mod_ops f.now.prime) f.now.prime f.now.coefficients) column.now }
+    requires column { IsNonzeroKernelColumn f.now.prime (berlekamp_matrix (mod_ops f.now.prime) f.now.prime f.now.coefficients) column.now }
     ensures prime { result.prime ≡ f.now.prime }
     ensures factor { IsProperFactor (residues f.now.prime) f.now.coefficients result.coefficients }
 {

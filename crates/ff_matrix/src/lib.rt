@@ -13,7 +13,8 @@ mod tests;
 
 pub use columns::{Column, ColumnList};
 pub use echelon::Echelon;
+use ff_poly::MAX_DEGREE;
 pub use matrices::Matrix;
 
-/// The most places that a row of a matrix beside the identity has: twice `MAX_DEGREE`.
-pub const MAX_WIDTH: usize = 48;
+/// The most places that a row of a matrix beside the identity has.
+pub const MAX_WIDTH: usize = 2 * MAX_DEGREE;

@@ -1,4 +1,4 @@
--- How a polynomial is made monic.
+-- How a polynomial is made monic. No public clause cites this module.
 --     IsNormalizer p f k     k is the constant polynomial of the inverse of f's last coefficient
 use Rattle.std.specs.Prelude.{◌≡◌, ℕ, ◌<◌, List, [], ◌∷◌}
 use Rattle.ff_model.specs.Coefficients.{mod_ops}

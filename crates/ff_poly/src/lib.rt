@@ -3,6 +3,8 @@
 //! Coefficients stand lowest first. The last one isn't zero, so that the zero polynomial has none.
 #![tactic(auto)]
 
+ghost use Rattle.std.specs.Prelude.{◌≡◌};
+
 mod arithmetic;
 mod division;
 mod divisors;
@@ -29,3 +31,8 @@ pub const MAX_POLYX: usize = 49;
 
 /// The number of characteristics.
 pub const PRIMES: usize = 11;
+
+/// The limits, as numbers.
+pub fn limits()
+    ensures { (MAX_DEGREE ≡ 24) × (MAX_POLY ≡ 64) × (MAX_POLYX ≡ 49) × (PRIMES ≡ 11) }
+{}

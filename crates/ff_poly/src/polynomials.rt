@@ -30,7 +30,8 @@ impl Model for Poly {
 impl Default for Poly {
     /// The zero polynomial over the first characteristic.
     fn default() -> Poly
-        ensures { result.coefficients ≡ [] }
+        ensures prime { result.prime ≡ 2 }
+        ensures zero { result.coefficients ≡ [] }
     {
         Poly::trimmed(Prime::default(), &[])
     }
@@ -43,7 +44,7 @@ impl Poly {
     ///
     /// `None` where `c` has more than `MAX_POLY` numbers or one that isn't below `p`.
     pub fn of_slice(p: Prime, c: &[u8]) -> Option<Poly>
-        ensures refused { IsSome result ↔ ((length c.now ≤ MAX_POLY) × All (λ x. x < p) c.now) }
+        ensures some { IsSome result ↔ ((length c.now ≤ MAX_POLY) × All (λ x. x < p) c.now) }
         ensures made { IfSome result (λ f. (f.prime ≡ p) × (f.coefficients ≡ trim (mod_ops p) c.now)) }
     {
         if c.len() > MAX_POLY || !are_residues(p, c) {

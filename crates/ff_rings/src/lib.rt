@@ -6,8 +6,8 @@ ghost use Rattle.std.specs.Prelude.{◌≡◌, ◌≢◌, ◌↔◌, ℕ, List, 
 ghost use Rattle.ff_model.specs.Coefficients.{Ops, mod_ops, residues, IsCharacteristic};
 ghost use Rattle.ff_model.specs.Polynomials.{poly_product, convolution};
 ghost use Rattle.ff_model.specs.Factors.{IsPolynomial, IsDivision, Divides};
-ghost use Rattle.ff_model.specs.Fields.{IsField};
-ghost use Rattle.ff_rings.specs.Laws.{RingLaws};
+ghost use Rattle.ff_model.specs.Fields.{IsRing, IsField};
+ghost use Rattle.ff_rings.specs.Laws.{RingLaws, polynomials};
 
 /// The k-th coefficient of a product of polynomials is the sum of the products of their coefficients at places that add up
 /// to k: over each commutative ring, and over the residues modulo each number.
@@ -15,6 +15,11 @@ pub fn convolution_law<T>()
     ensures rings { (o : Ops T) → RingLaws o → (f g : List T) (k : ℕ)
         → slice_index_or (poly_product o f g) k o.zero ≡ convolution o f g k }
     ensures residues { (p : ℕ) (f g : List ℕ) (k : ℕ) → slice_index (poly_product (mod_ops p) f g) k ≡ convolution (mod_ops p) f g k }
+{}
+
+/// The polynomials over the residues modulo a characteristic form a commutative ring.
+pub fn polynomials_are_a_ring()
+    ensures { (p : ℕ) → IsCharacteristic p → IsRing (polynomials (residues p)) }
 {}
 
 /// The residues modulo a characteristic form a field.

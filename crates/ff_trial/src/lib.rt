@@ -111,7 +111,7 @@ pub fn can_try(f: &Poly) -> bool
     has_few_residues(f.prime(), f.coefficients().len().saturating_sub(1))
 }
 
-/// The least factor of a monic polynomial of degree 1 or more with at most `TRIAL_LIMIT` residues; `None` where it is
+/// The least factor of a polynomial of degree 1 or more with at most `TRIAL_LIMIT` residues; `None` where it is
 /// irreducible.
 ///
 /// Every polynomial of smaller degree is tried, in the order of their numbers in base p.

@@ -50,7 +50,8 @@ impl<I: Read> Source for StdSource<I> {
         ensures never_falls { self.old.faults ≤ self.new.faults }
         ensures fits { self.new.faults < 2 ^ 64 }
 
-        // Beyond what each source does: it read its reader once, and counted exactly the faults.
+        // Beyond what each source does: what it gave was taken from the reader, a failure kept the reader's bytes, and
+        // exactly a failure was counted. That it fails only where the reader does, no clause says.
         ensures reads { ReadConsumes self.old.known self.new.known result buf.new }
         ensures counts { MatchResult result (λ _. self.new.faults ≡ self.old.faults)
             (λ _. self.new.faults ≡ one_more self.old.faults) }
@@ -107,7 +108,8 @@ impl<W: Write> Sink for StdSink<W> {
         ensures never_falls { self.old.faults ≤ self.new.faults }
         ensures fits { self.new.faults < 2 ^ 64 }
 
-        // Beyond what each sink does: it wrote to its writer once, and counted exactly the faults.
+        // Beyond what each sink does: what it took was appended to the writer, a failure kept the writer's bytes, and
+        // exactly a failure was counted. That it fails only where the writer does, no clause says.
         ensures writes { WriteAppends self.old.known self.new.known result bytes.now }
         ensures counts { MatchResult result (λ _. self.new.faults ≡ self.old.faults)
             (λ _. self.new.faults ≡ one_more self.old.faults) }

@@ -2,13 +2,13 @@ use Rattle.std.proofs.Common.{◌≡◌, ◌+◌, ◌-◌, [], ◌∷◌, ◌++�
 use Rattle.std.specs.List.{range_with_len}
 use Rattle.std.proofs.lemmas.List.FromFn.{map-range_with_len_more}
 use Rattle.ff_model.specs.Coefficients.{mod_ops}
-use Rattle.ff_factor.specs.Certificates.{frobenius_column}
+use Rattle.ff_factor.specs.Certificates.{berlekamp_column}
 use Rattle.ff_factor.proofs.columns.columns_by_powers.Goals as goal
 
 pub loop-k-preserved : goal.loop-k-preserved
 loop-k-preserved c =
     let f = c.args.f.now in
-    let column = frobenius_column (mod_ops f.prime) f.prime f.coefficients in
+    let column = berlekamp_column (mod_ops f.prime) f.prime f.coefficients in
     let k = c.loop-k.k in
     let more : k - 1 + 1 ≡ k + 1 - 1 = omega arith in
     let at : 1 + (k - 1) ≡ k = omega arith in

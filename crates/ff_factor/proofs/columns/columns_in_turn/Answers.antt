@@ -5,7 +5,7 @@ use Rattle.std.proofs.lemmas.List.Elements.{All-weaker, All-cons, All-replicate}
 use Rattle.std.proofs.lemmas.List.FromFn.{map-range_with_len_more}
 use Rattle.ff_model.specs.Coefficients.{mod_ops}
 use Rattle.ff_model.specs.Values.{degree}
-use Rattle.ff_factor.specs.Certificates.{frobenius_column}
+use Rattle.ff_factor.specs.Certificates.{berlekamp_column}
 use Rattle.ff_factor.specs.Splitting.{ArePlacesOfPower, residues_modulo}
 use Rattle.ff_factor.proofs.PowersOfVariable.{places_of_one, power_from_places}
 use Rattle.ff_factor.proofs.Steps.{refill_whole}
@@ -55,7 +55,7 @@ gap_column-requires-clause-power c =
 pub loop-k-preserved : goal.loop-k-preserved
 loop-k-preserved c =
     let f = c.args.f.now in
-    let column = frobenius_column (mod_ops f.prime) f.prime f.coefficients in
+    let column = berlekamp_column (mod_ops f.prime) f.prime f.coefficients in
     let k = c.loop-k.k in
     let more : k - 1 + 1 ≡ k + 1 - 1 = omega arith in
     let at : 1 + (k - 1) ≡ k = omega arith in

@@ -2,7 +2,7 @@ use Rattle.std.proofs.Common.{◌≡◌, ◌-◌, ◌*◌, ◌^◌, ◌<◌, len
 use Rattle.std.specs.List.{range_with_len}
 use Rattle.ff_model.specs.Coefficients.{mod_ops}
 use Rattle.ff_model.specs.Values.{degree}
-use Rattle.ff_factor.specs.Certificates.{frobenius_column}
+use Rattle.ff_factor.specs.Certificates.{berlekamp_column}
 use Rattle.ff_factor.specs.Splitting.{ArePlacesOfPower}
 use Rattle.ff_factor.proofs.columns.columns_in_turn.Given as goal
 
@@ -12,5 +12,5 @@ invariant-loop-k l = record {
   small : All (λ x. x < l.k * 2 ^ 15) l.places.items;
   last : ArePlacesOfPower l.f ((l.k - 1) * l.f.prime) l.places.items;
   counted : length l.columns.items ≡ l.k - 1;
-  columns : l.columns.items ≡ map (frobenius_column (mod_ops l.f.prime) l.f.prime l.f.coefficients) (range_with_len 1 (l.k - 1));
+  columns : l.columns.items ≡ map (berlekamp_column (mod_ops l.f.prime) l.f.prime l.f.coefficients) (range_with_len 1 (l.k - 1));
 }

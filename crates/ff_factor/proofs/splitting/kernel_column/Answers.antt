@@ -1,6 +1,6 @@
 use Rattle.std.proofs.Common.{◌≡◌, slice_index_or, ap, sym, ◌∙◌, subst}
 use Rattle.ff_rings.proofs.ResidueFields.{residues_field, residues_propositional}
-use Rattle.ff_factor.specs.Splitting.{IsKernelColumn}
+use Rattle.ff_factor.specs.Splitting.{IsNonzeroKernelColumn}
 use Rattle.ff_factor.proofs.Kernels.{kernel_member}
 use Rattle.ff_factor.proofs.splitting.kernel_column.Goals as goal
 
@@ -12,4 +12,4 @@ returns c =
     let d = c.index-items-0.result in
     let same : slice_index_or c.kernel-basis.result 0 d ≡ c.copy.result =
     sym (c.copy.ensures ∙ c.index-items-0.is ∙ ap (λ xs. slice_index_or xs 0 d) c.items.ensures.value) in
-    subst (IsKernelColumn p c.args.m.now.matrix) same (record { column = (k.member d).0; sent = (k.member d).1; not_zero = k.not_zero d })
+    subst (IsNonzeroKernelColumn p c.args.m.now.matrix) same (record { column = (k.member d).0; sent = (k.member d).1; not_zero = k.not_zero d })

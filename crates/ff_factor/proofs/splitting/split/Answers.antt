@@ -5,7 +5,7 @@ use Rattle.ff_model.specs.Polynomials.{poly_sum, poly_product}
 use Rattle.ff_model.specs.Values.{degree}
 use Rattle.ff_model.specs.Matrices.{matrix_product, identity_matrix}
 use Rattle.ff_fields.proofs.Derivatives.{length_derivative}
-use Rattle.ff_factor.specs.Certificates.{frobenius_column}
+use Rattle.ff_factor.specs.Certificates.{berlekamp_column}
 use Rattle.ff_factor.proofs.AtResidues.{derivative_common, gcd_is_one}
 use Rattle.ff_factor.proofs.splitting.split.Goals as goal
 use Rattle.ff_factor.proofs.splitting.split.Goals.{In-Some}
@@ -48,9 +48,9 @@ pub certificate-requires-clause-left_inverse : goal.certificate-requires-clause-
 certificate-requires-clause-left_inverse c =
     let p = c.args.f.now.prime in
     let f = c.args.f.now.coefficients in
-    let m = c.frobenius_matrix-matrix.ensures in
-    let long = length-map-range_with_len (frobenius_column (mod_ops p) p f) 1 (degree f - 1) in
+    let m = c.matrix_in_turn-matrix.ensures in
+    let long = length-map-range_with_len (berlekamp_column (mod_ops p) p f) 1 (degree f - 1) in
     sym (ap₂ (λ q b. matrix_product (mod_ops q) c.in-Some.left.matrix b) m.prime m.matrix)
-    ∙ (c.in-Some.ensures.some c.frobenius_matrix-matrix.result c.echelon-echelon.ensures).2
+    ∙ (c.in-Some.ensures.some c.matrix_in_turn-matrix.result c.echelon-echelon.ensures).2
     ∙ ap₂ (λ q b. identity_matrix (mod_ops q) (length b.columns)) m.prime m.matrix
     ∙ ap (identity_matrix (mod_ops p)) long

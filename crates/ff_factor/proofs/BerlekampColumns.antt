@@ -31,7 +31,7 @@ use Rattle.ff_fields.proofs.Remainders
 use Rattle.ff_fields.proofs.Remainders.{reduced_value, same_as_value, reduced_from_same}
 use Rattle.ff_fields.proofs.Generator.{generator, value_at_generator}
 use Rattle.ff_fields.proofs.Certificates.{power_is}
-use Rattle.ff_factor.specs.Certificates.{frobenius_column}
+use Rattle.ff_factor.specs.Certificates.{berlekamp_column}
 use Rattle.ff_factor.proofs.Compositions
 use Rattle.ff_factor.proofs.Compositions.{gaps}
 
@@ -82,7 +82,7 @@ module _ {A : Type 0} {c : Carrier A} (P : IsPropositional c) (F : IsField c) wh
         (power_of_generator k)
 
     module _ (f : Polynomial c) (not_constant : 1 < length f.0) (monic : IsMonic c f.0) where
-      column_is : (k : ℕ) → reduced c.ops f.0 (gap k).0 ≡ frobenius_column c.ops p f.0 k
+      column_is : (k : ℕ) → reduced c.ops f.0 (gap k).0 ≡ berlekamp_column c.ops p f.0 k
       column_is k = ap (reduced c.ops f.0) (gap_is k)
 
       -- the remainder of a multiple by a constant
@@ -101,7 +101,7 @@ module _ {A : Type 0} {c : Carrier A} (P : IsPropositional c) (F : IsField c) wh
           (Modulo.same_product U.ring (Modulo.same_itself U.ring f (constant P F.ring a)) (same_as_value P F f not_constant monic g)))
 
       combination_is : (j : ℕ) (X : List (Element c))
-          → combination c.ops (degree f.0) (map (frobenius_column c.ops p f.0) (range_with_len j (length (map (value c) X)))) (map (value c) X)
+          → combination c.ops (degree f.0) (map (berlekamp_column c.ops p f.0) (range_with_len j (length (map (value c) X)))) (map (value c) X)
           ≡ reduced c.ops f.0 (gaps Q x (power Q x p) j (map (constant P F.ring) X)).0
       combination_is j [] = refl
       combination_is j (a ∷ X) =
@@ -121,15 +121,15 @@ module _ {A : Type 0} {c : Carrier A} (P : IsPropositional c) (F : IsField c) wh
 
         -- **the columns 1, 2, .. by the coefficients 1, 2, .. of v add up to v^p - v modulo f**
         pub columns_combination : (a : A) (xs : List A) (v : All c.Valid (a ∷ xs))
-            → combination c.ops (degree f.0) (map (frobenius_column c.ops p f.0) (range_with_len 1 (length xs))) xs
+            → combination c.ops (degree f.0) (map (berlekamp_column c.ops p f.0) (range_with_len 1 (length xs))) xs
             ≡ reduced c.ops f.0 (Q.add (power Q (class_of P F.ring (a ∷ xs) v) p) (Q.neg (class_of P F.ring (a ∷ xs) v))).0
         columns_combination a xs v =
-            on_valid c (λ xs. (v : All c.Valid (a ∷ xs)) → combination c.ops (degree f.0) (map (frobenius_column c.ops p f.0) (range_with_len 1 (length xs))) xs
+            on_valid c (λ xs. (v : All c.Valid (a ∷ xs)) → combination c.ops (degree f.0) (map (berlekamp_column c.ops p f.0) (range_with_len 1 (length xs))) xs
             ≡ reduced c.ops f.0 (Q.add (power Q (class_of P F.ring (a ∷ xs) v) p) (Q.neg (class_of P F.ring (a ∷ xs) v))).0)
             at xs (All-tail c.Valid a xs v) v
           where
             at : (X : List (Element c)) (v : All c.Valid (a ∷ map (value c) X))
-                → combination c.ops (degree f.0) (map (frobenius_column c.ops p f.0) (range_with_len 1 (length (map (value c) X)))) (map (value c) X)
+                → combination c.ops (degree f.0) (map (berlekamp_column c.ops p f.0) (range_with_len 1 (length (map (value c) X)))) (map (value c) X)
                 ≡ reduced c.ops f.0 (Q.add (power Q (class_of P F.ring (a ∷ map (value c) X) v) p) (Q.neg (class_of P F.ring (a ∷ map (value c) X) v))).0
             at X v =
                 let b : Element c = (a, All-head c.Valid a (map (value c) X) v) in

@@ -2,7 +2,7 @@ use Rattle.std.proofs.Common.{◌-◌, length, All, sym, ◌∙◌, subst}
 use Rattle.ff_model.specs.Coefficients.{residues}
 use Rattle.ff_model.specs.Matrices.{IsColumn}
 use Rattle.ff_factor.proofs.AtResidues.{matrix_valid}
-use Rattle.ff_factor.proofs.columns.frobenius_matrix.Goals as goal
+use Rattle.ff_factor.proofs.columns.matrix_in_turn.Goals as goal
 
 pub of_columns-requires-clause-residues : goal.of_columns-requires-clause-residues
 of_columns-requires-clause-residues c =
