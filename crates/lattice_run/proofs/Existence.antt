@@ -19,13 +19,12 @@ use Rattle.ff_divisors.proofs.Least.{contains_one}
 use Rattle.ff_poly.specs.declared.TheConstants.{MAX_DEGREE}
 use Rattle.lat_script.specs.declared.commands.Command.{Command}
 use Rattle.lat_script.specs.declared.commands.Command.TheVariants.{Field}
-use Rattle.lat_script.specs.declared.commands.Script.{Script}
 use Rattle.lat_script.specs.declared.replies.Reply.{Reply}
 use Rattle.lat_script.specs.declared.replies.Reply.TheVariants.{Declared, Refused}
 use Rattle.lat_script.specs.declared.replies.StepRefusal.{StepRefusal}
 use Rattle.lat_script.specs.declared.replies.StepRefusal.TheVariants.{NotInTable, DegreeOutOfRange, CoefficientTooLarge, NotMonic, NameTaken, Reducible, TooManyFields}
 use Rattle.lat_script.specs.declared.replies.Outcome.TheVariants.{Changed}
-use Rattle.lat_script.specs.Grammar.{Spells, FirstBad}
+use Rattle.lat_script.proofs.Readings.{reading_exists}
 use Rattle.lat_script.specs.Texts.{line_text, summary_text, usage_text, bad_line_text, too_long_text}
 use Rattle.lattice_run.specs.declared.lattice.TheConstants.{MAX_FIELDS}
 use Rattle.lattice_run.specs.declared.run.TheConstants.{MAX_INPUT}
@@ -168,17 +167,15 @@ solo_or_not [] = inr (λ e. cc)
 solo_or_not (x ∷ y ∷ words) = inr (λ e. cc)
 solo_or_not (x ∷ []) = ⊎_elim (λ e. inl (ap (λ t. t ∷ []) e)) (λ n. inr (λ e. n (head_same e))) (same_or_not x (codes "solo"))
 
-solo_answer : (words : List (List ℕ)) (input : List ℕ) → ((s : Script) × Spells input s) ⊎ ((n : ℕ) × (k : ℕ) × FirstBad input n k)
-    → IsSolo words → length input ≤ MAX_INPUT → (s : ℕ) × (text : List ℕ) × Answers words input s text
-solo_answer words input reading solo fits = ⊎_elim
+solo_answer : (words : List (List ℕ)) (input : List ℕ) → IsSolo words → length input ≤ MAX_INPUT → (s : ℕ) × (text : List ℕ) × Answers words input s text
+solo_answer words input solo fits = ⊎_elim
     (λ s. let (text, transcript) = transcript_exists s.0.prologue in (0, text, played solo fits s.0 text s.1 transcript))
-    (λ b. (3, bad_line_text b.0 b.1, bad_line solo fits b.0 b.1 b.2)) reading
+    (λ b. (3, bad_line_text b.0 b.1, bad_line solo fits b.0 b.1 b.2)) (reading_exists input)
 
--- **words and input have an answer**, where each input spells a script or has a first fault
-pub answer_exists : ((bytes : List ℕ) → ((s : Script) × Spells bytes s) ⊎ ((n : ℕ) × (k : ℕ) × FirstBad bytes n k))
-    → (words : List (List ℕ)) (input : List ℕ) → (s : ℕ) × (text : List ℕ) × Answers words input s text
-answer_exists reads words input = ⊎_elim
+-- **words and input have an answer**
+pub answer_exists : (words : List (List ℕ)) (input : List ℕ) → (s : ℕ) × (text : List ℕ) × Answers words input s text
+answer_exists words input = ⊎_elim
     (λ solo. ⊎_elim
     (λ l. (3, too_long_text MAX_INPUT, too_long solo l))
-    (λ h. solo_answer words input (reads input) solo h) (cases_lt MAX_INPUT (length input)))
+    (λ h. solo_answer words input solo h) (cases_lt MAX_INPUT (length input)))
     (λ n. (2, usage_text, usage n)) (solo_or_not words)

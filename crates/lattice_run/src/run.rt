@@ -171,8 +171,9 @@ pub fn one_transcript()
     ensures exists { (commands : List Command) → (text : List ℕ) × IsTranscript commands text }
 {}
 
-/// Words and an input have one answer: its status and its text.
+/// Words and an input have an answer, its status and its text, and only one.
 pub fn one_answer()
-    ensures { (words : List (List ℕ)) (input : List ℕ) (s t : ℕ) (text other : List ℕ) → Answers words input s text
+    ensures unique { (words : List (List ℕ)) (input : List ℕ) (s t : ℕ) (text other : List ℕ) → Answers words input s text
         → Answers words input t other → (s ≡ t) × (text ≡ other) }
+    ensures exists { (words : List (List ℕ)) (input : List ℕ) → (s : ℕ) × (text : List ℕ) × Answers words input s text }
 {}
