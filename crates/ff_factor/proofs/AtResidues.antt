@@ -2,30 +2,30 @@
 use Rattle.std.proofs.Common.{◌≡◌, ◌≢◌, ⊎_elim, ℕ, ◌-◌, ◌*◌, ◌<◌, ◌≤◌, List, [], ◌∷◌, length, slice_index, All, ap, sym, ◌∙◌, arith, subst}
 use Rattle.std.proofs.lemmas.List.FromFn.{length-map-range_with_len}
 use Rattle.std.proofs.lemmas.List.Elements.{All-from_get_or, All-cons, All-nil}
-use Rattle.ff_model.specs.Coefficients.{mod_ops, residues, times, power, IsCharacteristic}
-use Rattle.ff_model.specs.Polynomials.{trim, poly_product, derivative}
-use Rattle.ff_model.specs.Factors.{IsPolynomial, IsMonic, IsIrreducible, IsProperFactor, IsGreatestCommonDivisor, Divides}
-use Rattle.ff_model.specs.Fields.{IsRing, IsField}
-use Rattle.ff_model.specs.Values.{degree}
-use Rattle.ff_model.specs.Matrices.{Matrix, identity_matrix, zero_column, IsColumn, IsMatrix, IsIndependent}
-use Rattle.ff_rings.proofs.ResidueFields.{residues_field, residues_propositional, two_le_characteristic}
-use Rattle.ff_rings.specs.Laws.{IsPropositional}
-use Rattle.ff_rings.proofs.Elements.{Element, element_ops}
-use Rattle.ff_rings.proofs.Rings
-use Rattle.ff_rings.proofs.Trims
-use Rattle.ff_rings.proofs.Lists.{product_nil}
-use Rattle.ff_rings.proofs.Validity.{place_valid}
-use Rattle.ff_rings.proofs.Carriers
-use Rattle.ff_rings.proofs.Divisors.{polynomial_laws, same_polynomial, length_divisor}
-use Rattle.ff_divisors.specs.Factorization.{AreCoprime}
-use Rattle.ff_linear.proofs.Kernels.{independent_from_left}
-use Rattle.ff_fields.specs.Fixed.{IsFixed, less_constant}
-use Rattle.ff_fields.proofs.Derivatives.{length_derivative}
-use Rattle.ff_fields.proofs.Primes.{IsPrime-characteristic}
-use Rattle.ff_fields.proofs.Frobenius.{IsPrime}
-use Rattle.ff_fields.proofs.FiniteFields.{residues_characteristic}
-use Rattle.ff_fields.proofs.AtResidues.{size_at_residues}
-use Rattle.ff_fields.proofs.Certificates.{irreducible_from_certificate, fixed_splits}
+use Rattle.alg_model.specs.Coefficients.{mod_ops, residues, times, power, IsCharacteristic}
+use Rattle.alg_model.specs.Polynomials.{trim, poly_product, derivative}
+use Rattle.alg_model.specs.Factors.{IsPolynomial, IsMonic, IsIrreducible, IsProperFactor, IsGreatestCommonDivisor, Divides}
+use Rattle.alg_model.specs.Fields.{IsRing, IsField}
+use Rattle.alg_model.specs.Values.{degree}
+use Rattle.alg_model.specs.Matrices.{Matrix, identity_matrix, zero_column, IsColumn, IsMatrix, IsIndependent}
+use Rattle.alg_rings.proofs.ResidueFields.{residues_field, residues_propositional, two_le_characteristic}
+use Rattle.alg_rings.specs.Laws.{IsPropositional}
+use Rattle.alg_rings.proofs.Elements.{Element, element_ops}
+use Rattle.alg_rings.proofs.Rings
+use Rattle.alg_rings.proofs.Trims
+use Rattle.alg_rings.proofs.Lists.{product_nil}
+use Rattle.alg_rings.proofs.Validity.{place_valid}
+use Rattle.alg_rings.proofs.Carriers
+use Rattle.alg_rings.proofs.Divisors.{polynomial_laws, same_polynomial, length_divisor}
+use Rattle.alg_divisors.specs.Factorization.{AreCoprime}
+use Rattle.alg_linear.proofs.Kernels.{independent_from_left}
+use Rattle.alg_fields.specs.Fixed.{IsFixed, less_constant}
+use Rattle.alg_fields.proofs.Derivatives.{length_derivative}
+use Rattle.alg_fields.proofs.Primes.{IsPrime-characteristic}
+use Rattle.alg_fields.proofs.Frobenius.{IsPrime}
+use Rattle.alg_fields.proofs.FiniteFields.{residues_characteristic}
+use Rattle.alg_fields.proofs.AtResidues.{size_at_residues}
+use Rattle.alg_fields.proofs.Certificates.{irreducible_from_certificate, fixed_splits}
 use Rattle.ff_poly.specs.Polynomial.{IsPoly}
 use Rattle.ff_poly.specs.Polynomial as poly
 use Rattle.ff_matrix.specs.ModularMatrix.{IsModularMatrix}

@@ -3,34 +3,34 @@
 use Rattle.std.proofs.Common.{◌≡◌, ℕ, suc, ◌+◌, ◌*◌, ◌<◌, List, [], ◌∷◌, map, length, All, refl, ap, ap₂, sym, ◌∙◌, add-one, mul_comm}
 use Rattle.std.specs.List.{range_with_len}
 use Rattle.std.proofs.lemmas.List.Elements.{All-nil, All-cons, All-head, All-tail}
-use Rattle.ff_model.specs.Coefficients.{Ops, Carrier, times, power}
-use Rattle.ff_model.specs.Polynomials.{sum, scale, product, trim, poly_power, poly_difference, value_at}
-use Rattle.ff_model.specs.Factors.{IsPolynomial, IsMonic}
-use Rattle.ff_model.specs.Fields.{IsField}
-use Rattle.ff_model.specs.Values.{degree, reduced}
-use Rattle.ff_model.specs.Matrices.{combination}
-use Rattle.ff_rings.specs.Laws.{IsPropositional}
-use Rattle.ff_rings.proofs.Lists
-use Rattle.ff_rings.proofs.Homomorphisms
-use Rattle.ff_rings.proofs.Homomorphisms.{Homomorphism}
-use Rattle.ff_rings.proofs.Elements.{Element, value, element_ops, value_homomorphism, on_valid, element_laws}
-use Rattle.ff_rings.proofs.Validity.{scale_valid, product_valid}
-use Rattle.ff_rings.proofs.Carriers.{trimmed_from_leading}
-use Rattle.ff_rings.proofs.Divisors.{Polynomial, polynomial_ops, same_polynomial}
-use Rattle.ff_divisors.proofs.Euclidean
-use Rattle.ff_divisors.proofs.Fields.{polynomials_euclidean}
-use Rattle.ff_fields.proofs.Powers
-use Rattle.ff_fields.proofs.Frobenius.{IsPrime}
-use Rattle.ff_fields.proofs.Modulo
-use Rattle.ff_fields.proofs.Modulo.{Same}
-use Rattle.ff_fields.proofs.Classes
-use Rattle.ff_fields.proofs.Classes.{class_of}
-use Rattle.ff_fields.proofs.Constants
-use Rattle.ff_fields.proofs.Constants.{constant, alone}
-use Rattle.ff_fields.proofs.Remainders
-use Rattle.ff_fields.proofs.Remainders.{reduced_value, same_as_value, reduced_from_same}
-use Rattle.ff_fields.proofs.Generator.{generator, value_at_generator}
-use Rattle.ff_fields.proofs.Certificates.{power_is}
+use Rattle.alg_model.specs.Coefficients.{Ops, Carrier, times, power}
+use Rattle.alg_model.specs.Polynomials.{sum, scale, product, trim, poly_power, poly_difference, value_at}
+use Rattle.alg_model.specs.Factors.{IsPolynomial, IsMonic}
+use Rattle.alg_model.specs.Fields.{IsField}
+use Rattle.alg_model.specs.Values.{degree, reduced}
+use Rattle.alg_model.specs.Matrices.{combination}
+use Rattle.alg_rings.specs.Laws.{IsPropositional}
+use Rattle.alg_rings.proofs.Lists
+use Rattle.alg_rings.proofs.Homomorphisms
+use Rattle.alg_rings.proofs.Homomorphisms.{Homomorphism}
+use Rattle.alg_rings.proofs.Elements.{Element, value, element_ops, value_homomorphism, on_valid, element_laws}
+use Rattle.alg_rings.proofs.Validity.{scale_valid, product_valid}
+use Rattle.alg_rings.proofs.Carriers.{trimmed_from_leading}
+use Rattle.alg_rings.proofs.Divisors.{Polynomial, polynomial_ops, same_polynomial}
+use Rattle.alg_divisors.proofs.Euclidean
+use Rattle.alg_divisors.proofs.Fields.{polynomials_euclidean}
+use Rattle.alg_fields.proofs.Powers
+use Rattle.alg_fields.proofs.Frobenius.{IsPrime}
+use Rattle.alg_fields.proofs.Modulo
+use Rattle.alg_fields.proofs.Modulo.{Same}
+use Rattle.alg_fields.proofs.Classes
+use Rattle.alg_fields.proofs.Classes.{class_of}
+use Rattle.alg_fields.proofs.Constants
+use Rattle.alg_fields.proofs.Constants.{constant, alone}
+use Rattle.alg_fields.proofs.Remainders
+use Rattle.alg_fields.proofs.Remainders.{reduced_value, same_as_value, reduced_from_same}
+use Rattle.alg_fields.proofs.Generator.{generator, value_at_generator}
+use Rattle.alg_fields.proofs.Certificates.{power_is}
 use Rattle.ff_factor.specs.Certificates.{berlekamp_column}
 use Rattle.ff_factor.proofs.Compositions
 use Rattle.ff_factor.proofs.Compositions.{gaps}

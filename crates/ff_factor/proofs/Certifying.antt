@@ -6,23 +6,23 @@ use Rattle.std.proofs.lemmas.Bool.{cases_lt}
 use Rattle.std.proofs.lemmas.List.{length-replicate, length-append, get_or_past}
 use Rattle.std.proofs.lemmas.List.FromFn.{length-map-range_with_len}
 use Rattle.std.proofs.lemmas.List.Elements.{All-cons, All-head, All-tail, All-append, All-replicate, All-map}
-use Rattle.ff_model.specs.Coefficients.{Carrier, times, power}
-use Rattle.ff_model.specs.Polynomials.{trim, poly_power, poly_difference}
-use Rattle.ff_model.specs.Factors.{IsPolynomial, IsMonic}
-use Rattle.ff_model.specs.Fields.{IsField}
-use Rattle.ff_model.specs.Values.{degree, padded}
-use Rattle.ff_model.specs.Matrices.{combination, zero_column, IsColumn, IsMatrix, IsIndependent}
-use Rattle.ff_rings.specs.Laws.{IsPropositional}
-use Rattle.ff_rings.proofs.Elements.{Element, element_ops}
-use Rattle.ff_rings.proofs.Trims
-use Rattle.ff_rings.proofs.Carriers
-use Rattle.ff_rings.proofs.Divisors.{Polynomial}
-use Rattle.ff_linear.proofs.Columns.{same_columns, length_zero_column, zero_column_at}
-use Rattle.ff_fields.specs.Fixed.{IsFixed}
-use Rattle.ff_fields.proofs.Frobenius.{IsPrime}
-use Rattle.ff_fields.proofs.Reduction.{zeros_at}
-use Rattle.ff_fields.proofs.Classes
-use Rattle.ff_fields.proofs.Remainders.{reduced_value}
+use Rattle.alg_model.specs.Coefficients.{Carrier, times, power}
+use Rattle.alg_model.specs.Polynomials.{trim, poly_power, poly_difference}
+use Rattle.alg_model.specs.Factors.{IsPolynomial, IsMonic}
+use Rattle.alg_model.specs.Fields.{IsField}
+use Rattle.alg_model.specs.Values.{degree, padded}
+use Rattle.alg_model.specs.Matrices.{combination, zero_column, IsColumn, IsMatrix, IsIndependent}
+use Rattle.alg_rings.specs.Laws.{IsPropositional}
+use Rattle.alg_rings.proofs.Elements.{Element, element_ops}
+use Rattle.alg_rings.proofs.Trims
+use Rattle.alg_rings.proofs.Carriers
+use Rattle.alg_rings.proofs.Divisors.{Polynomial}
+use Rattle.alg_linear.proofs.Columns.{same_columns, length_zero_column, zero_column_at}
+use Rattle.alg_fields.specs.Fixed.{IsFixed}
+use Rattle.alg_fields.proofs.Frobenius.{IsPrime}
+use Rattle.alg_fields.proofs.Reduction.{zeros_at}
+use Rattle.alg_fields.proofs.Classes
+use Rattle.alg_fields.proofs.Remainders.{reduced_value}
 use Rattle.ff_factor.specs.Certificates.{berlekamp_column, berlekamp_matrix}
 use Rattle.ff_factor.proofs.BerlekampColumns.{variable, variable_polynomial}
 use Rattle.ff_factor.proofs.Criterion.{fixed_from_combination, combination_from_fixed}

@@ -8,16 +8,16 @@ use Rattle.std.proofs.lemmas.List.Edits.{length-insert}
 use Rattle.std.proofs.lemmas.List.Sorted.{sorted_far, ranks_by}
 use Rattle.std.proofs.lemmas.Bool.{false≢true}
 use Rattle.std.proofs.lemmas.Cmp.{nat_cmp_total}
-use Rattle.ff_model.specs.Coefficients.{residues, mod_ops, IsCharacteristic}
-use Rattle.ff_model.specs.Polynomials.{trim, poly_product}
-use Rattle.ff_model.specs.Factors.{IsPolynomial, IsMonic, IsIrreducible, IsLeastFactor, order_by}
-use Rattle.ff_rings.proofs.ResidueFields.{residues_field, residues_propositional}
-use Rattle.ff_rings.proofs.Carriers
-use Rattle.ff_rings.proofs.Rings.{mul_one}
-use Rattle.ff_rings.proofs.Divisors.{polynomial_laws}
-use Rattle.ff_divisors.specs.Factorization.{IsFactorization}
-use Rattle.ff_divisors.proofs.Order.{order_by_total}
-use Rattle.ff_divisors.proofs.LeastFactors.{least_of_factorization}
+use Rattle.alg_model.specs.Coefficients.{residues, mod_ops, IsCharacteristic}
+use Rattle.alg_model.specs.Polynomials.{trim, poly_product}
+use Rattle.alg_model.specs.Factors.{IsPolynomial, IsMonic, IsIrreducible, IsLeastFactor, order_by}
+use Rattle.alg_rings.proofs.ResidueFields.{residues_field, residues_propositional}
+use Rattle.alg_rings.proofs.Carriers
+use Rattle.alg_rings.proofs.Rings.{mul_one}
+use Rattle.alg_rings.proofs.Divisors.{polynomial_laws}
+use Rattle.alg_divisors.specs.Factorization.{IsFactorization}
+use Rattle.alg_divisors.proofs.Order.{order_by_total}
+use Rattle.alg_divisors.proofs.LeastFactors.{least_of_factorization}
 use Rattle.ff_poly.specs.Polynomial.{Polynomial, IsPoly}
 use Rattle.ff_factor.specs.Splitting.{Collects, AreOver, IsCofactor, coefficients_of}
 use Rattle.ff_factor.proofs.Insertion.{sorted_insert, All-insert, map-insert}

@@ -2,14 +2,14 @@
 --     gaps o x y j cs     c_0 * (y^j - x^j) + c_1 * (y^(j + 1) - x^(j + 1)) + ..
 use Rattle.std.proofs.Common.{◌≡◌, ℕ, suc, List, [], ◌∷◌, All, ap, ap₂, sym, ◌∙◌}
 use Rattle.std.proofs.lemmas.List.Elements.{All-head, All-tail}
-use Rattle.ff_model.specs.Coefficients.{Ops, times, power}
-use Rattle.ff_model.specs.Polynomials.{value_at}
-use Rattle.ff_rings.specs.Laws.{RingLaws}
-use Rattle.ff_rings.proofs.Rings
-use Rattle.ff_rings.proofs.Rings.{sorted, expanded}
-use Rattle.ff_fields.proofs.Powers
-use Rattle.ff_fields.proofs.Frobenius
-use Rattle.ff_fields.proofs.Frobenius.{IsPrime}
+use Rattle.alg_model.specs.Coefficients.{Ops, times, power}
+use Rattle.alg_model.specs.Polynomials.{value_at}
+use Rattle.alg_rings.specs.Laws.{RingLaws}
+use Rattle.alg_rings.proofs.Rings
+use Rattle.alg_rings.proofs.Rings.{sorted, expanded}
+use Rattle.alg_fields.proofs.Powers
+use Rattle.alg_fields.proofs.Frobenius
+use Rattle.alg_fields.proofs.Frobenius.{IsPrime}
 
 abbrev pub gaps : {P : Type 0} → Ops P → P → P → ℕ → List P → P
 gaps o x y j [] = o.zero

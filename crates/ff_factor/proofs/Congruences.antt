@@ -2,29 +2,29 @@
 use Rattle.std.proofs.Common.{◌≡◌, ⊎_elim, ℕ, zero, suc, ◌-◌, ◌*◌, ◌<◌, ◌==◌, cond, List, [], ◌∷◌, map, length, replicate, slice_index_or, All, refl, ap, sym, ◌∙◌, arith, subst}
 use Rattle.std.proofs.lemmas.Bool.{cases_eq, eq-eqb, ne_eqb}
 use Rattle.std.proofs.lemmas.List.Elements.{All-cons, All-nil, All-take}
-use Rattle.ff_model.specs.Coefficients.{Ops, Carrier}
-use Rattle.ff_model.specs.Polynomials.{sum, scale, trim, shift, product, poly_product, poly_difference, poly_power}
-use Rattle.ff_model.specs.Factors.{IsPolynomial, IsMonic, IsDivision}
-use Rattle.ff_model.specs.Fields.{IsField}
-use Rattle.ff_model.specs.Values.{degree, padded, times_x, reduced, values}
-use Rattle.ff_model.specs.Matrices.{IsColumn}
-use Rattle.ff_rings.specs.Laws.{IsPropositional}
-use Rattle.ff_rings.proofs.Monomials.{monomial, monomial_at, monomial_elsewhere}
-use Rattle.ff_rings.proofs.Homomorphisms
-use Rattle.ff_rings.proofs.Elements.{value, element_ops, value_homomorphism, on_valid, element_laws}
-use Rattle.ff_rings.proofs.Carriers
-use Rattle.ff_rings.proofs.Validity.{place_valid, sum_valid, scale_valid}
-use Rattle.ff_rings.proofs.Divisors.{Polynomial, polynomial_ops, same_polynomial}
-use Rattle.ff_divisors.proofs.Euclidean
-use Rattle.ff_divisors.proofs.Fields.{polynomials_euclidean}
-use Rattle.ff_fields.proofs.FermatProduct.{leading_monomial}
-use Rattle.ff_fields.proofs.Modulo
-use Rattle.ff_fields.proofs.Modulo.{Same}
-use Rattle.ff_fields.proofs.Classes.{class_of, reduced_same, reduced_valid}
-use Rattle.ff_fields.proofs.Reduction.{length_reduced}
-use Rattle.ff_fields.proofs.ValueFields.{values_ring}
-use Rattle.ff_fields.proofs.Remainders.{reduced_equal, reduced_of_value, reduced_value, same_from_reduced, reduced_from_same}
-use Rattle.ff_fields.proofs.Generator.{product_with_x}
+use Rattle.alg_model.specs.Coefficients.{Ops, Carrier}
+use Rattle.alg_model.specs.Polynomials.{sum, scale, trim, shift, product, poly_product, poly_difference, poly_power}
+use Rattle.alg_model.specs.Factors.{IsPolynomial, IsMonic, IsDivision}
+use Rattle.alg_model.specs.Fields.{IsField}
+use Rattle.alg_model.specs.Values.{degree, padded, times_x, reduced, values}
+use Rattle.alg_model.specs.Matrices.{IsColumn}
+use Rattle.alg_rings.specs.Laws.{IsPropositional}
+use Rattle.alg_rings.proofs.Monomials.{monomial, monomial_at, monomial_elsewhere}
+use Rattle.alg_rings.proofs.Homomorphisms
+use Rattle.alg_rings.proofs.Elements.{value, element_ops, value_homomorphism, on_valid, element_laws}
+use Rattle.alg_rings.proofs.Carriers
+use Rattle.alg_rings.proofs.Validity.{place_valid, sum_valid, scale_valid}
+use Rattle.alg_rings.proofs.Divisors.{Polynomial, polynomial_ops, same_polynomial}
+use Rattle.alg_divisors.proofs.Euclidean
+use Rattle.alg_divisors.proofs.Fields.{polynomials_euclidean}
+use Rattle.alg_fields.proofs.FermatProduct.{leading_monomial}
+use Rattle.alg_fields.proofs.Modulo
+use Rattle.alg_fields.proofs.Modulo.{Same}
+use Rattle.alg_fields.proofs.Classes.{class_of, reduced_same, reduced_valid}
+use Rattle.alg_fields.proofs.Reduction.{length_reduced}
+use Rattle.alg_fields.proofs.ValueFields.{values_ring}
+use Rattle.alg_fields.proofs.Remainders.{reduced_equal, reduced_of_value, reduced_value, same_from_reduced, reduced_from_same}
+use Rattle.alg_fields.proofs.Generator.{product_with_x}
 use Rattle.ff_factor.specs.Certificates.{berlekamp_column}
 use Rattle.ff_factor.proofs.BerlekampColumns.{variable, variable_polynomial}
 use Rattle.ff_factor.proofs.Shifts.{length_times_x}

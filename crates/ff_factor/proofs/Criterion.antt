@@ -1,21 +1,21 @@
 -- Fixed polynomials by the matrix of v -> v^p - v: v is fixed modulo f exactly if its coefficients 1, 2, .. are sent to zero.
 use Rattle.std.proofs.Common.{◌≡◌, ℕ, ◌<◌, List, ◌∷◌, map, length, All, ap, sym, ◌∙◌, subst}
 use Rattle.std.specs.List.{range_with_len}
-use Rattle.ff_model.specs.Coefficients.{Ops, Carrier, times, power}
-use Rattle.ff_model.specs.Polynomials.{trim, poly_power, poly_difference}
-use Rattle.ff_model.specs.Factors.{IsMonic, Divides}
-use Rattle.ff_model.specs.Fields.{IsField}
-use Rattle.ff_model.specs.Values.{degree}
-use Rattle.ff_model.specs.Matrices.{combination, zero_column}
-use Rattle.ff_rings.specs.Laws.{IsPropositional}
-use Rattle.ff_rings.proofs.Elements.{Element, element_ops}
-use Rattle.ff_rings.proofs.Divisors.{Polynomial, polynomial_ops}
-use Rattle.ff_fields.specs.Fixed.{IsFixed}
-use Rattle.ff_fields.proofs.Frobenius.{IsPrime}
-use Rattle.ff_fields.proofs.Derivations.{polynomial_characteristic}
-use Rattle.ff_fields.proofs.Classes.{class_of}
-use Rattle.ff_fields.proofs.Remainders.{divides_iff_reduced}
-use Rattle.ff_fields.proofs.Certificates.{power_is}
+use Rattle.alg_model.specs.Coefficients.{Ops, Carrier, times, power}
+use Rattle.alg_model.specs.Polynomials.{trim, poly_power, poly_difference}
+use Rattle.alg_model.specs.Factors.{IsMonic, Divides}
+use Rattle.alg_model.specs.Fields.{IsField}
+use Rattle.alg_model.specs.Values.{degree}
+use Rattle.alg_model.specs.Matrices.{combination, zero_column}
+use Rattle.alg_rings.specs.Laws.{IsPropositional}
+use Rattle.alg_rings.proofs.Elements.{Element, element_ops}
+use Rattle.alg_rings.proofs.Divisors.{Polynomial, polynomial_ops}
+use Rattle.alg_fields.specs.Fixed.{IsFixed}
+use Rattle.alg_fields.proofs.Frobenius.{IsPrime}
+use Rattle.alg_fields.proofs.Derivations.{polynomial_characteristic}
+use Rattle.alg_fields.proofs.Classes.{class_of}
+use Rattle.alg_fields.proofs.Remainders.{divides_iff_reduced}
+use Rattle.alg_fields.proofs.Certificates.{power_is}
 use Rattle.ff_factor.specs.Certificates.{berlekamp_column}
 use Rattle.ff_factor.proofs.BerlekampColumns
 

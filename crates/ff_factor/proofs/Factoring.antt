@@ -3,20 +3,20 @@ use Rattle.std.proofs.Common.{◌≡◌, ◌≢◌, ℕ, ◌+◌, ◌<◌, List,
 use Rattle.std.specs.List.{insert}
 use Rattle.std.proofs.lemmas.List.{take-append-drop, map-append}
 use Rattle.std.proofs.lemmas.List.Elements.{All-take, All-drop, All-nil, All-weaker}
-use Rattle.ff_model.specs.Coefficients.{Carrier}
-use Rattle.ff_model.specs.Polynomials.{trim, poly_sum, poly_product, leading}
-use Rattle.ff_model.specs.Factors.{IsPolynomial, IsMonic, IsDivision, IsProperFactor, IsIrreducible}
-use Rattle.ff_model.specs.Fields.{IsField}
-use Rattle.ff_rings.specs.Laws.{IsPropositional, polynomials}
-use Rattle.ff_rings.proofs.Elements.{on_valid₂}
-use Rattle.ff_rings.proofs.Lists.{sum_nil}
-use Rattle.ff_rings.proofs.Carriers
-use Rattle.ff_rings.proofs.Divisors
-use Rattle.ff_rings.proofs.Divisors.{Polynomial, polynomial_laws}
-use Rattle.ff_divisors.specs.Factorization.{product_of, IsFactorization}
-use Rattle.ff_divisors.proofs.Factorization.{product_middle}
-use Rattle.ff_divisors.proofs.Fields.{polynomials_euclidean}
-use Rattle.ff_divisors.proofs.Polynomials.{product_of-map}
+use Rattle.alg_model.specs.Coefficients.{Carrier}
+use Rattle.alg_model.specs.Polynomials.{trim, poly_sum, poly_product, leading}
+use Rattle.alg_model.specs.Factors.{IsPolynomial, IsMonic, IsDivision, IsProperFactor, IsIrreducible}
+use Rattle.alg_model.specs.Fields.{IsField}
+use Rattle.alg_rings.specs.Laws.{IsPropositional, polynomials}
+use Rattle.alg_rings.proofs.Elements.{on_valid₂}
+use Rattle.alg_rings.proofs.Lists.{sum_nil}
+use Rattle.alg_rings.proofs.Carriers
+use Rattle.alg_rings.proofs.Divisors
+use Rattle.alg_rings.proofs.Divisors.{Polynomial, polynomial_laws}
+use Rattle.alg_divisors.specs.Factorization.{product_of, IsFactorization}
+use Rattle.alg_divisors.proofs.Factorization.{product_middle}
+use Rattle.alg_divisors.proofs.Fields.{polynomials_euclidean}
+use Rattle.alg_divisors.proofs.Polynomials.{product_of-map}
 use Rattle.ff_factor.specs.Splitting.{IsCofactor}
 use Rattle.ff_factor.proofs.Insertion.{All-insert}
 

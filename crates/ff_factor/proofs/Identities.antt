@@ -1,10 +1,10 @@
 -- The identity among the matrices over a ring, by its entries.
 use Rattle.std.proofs.Common.{◌≡◌, ◌↔◌, ℕ, ◌<◌, ◌==◌, cond, length, refl, ap, sym, ◌∙◌, subst, arith}
-use Rattle.ff_model.specs.Coefficients.{Carrier}
-use Rattle.ff_model.specs.Fields.{IsRing}
-use Rattle.ff_model.specs.Matrices.{Matrix, entry, identity_matrix, IsMatrix}
-use Rattle.ff_linear.proofs.Carriers.{matrix_long, identity_valid, entry_of_identity, delta_value}
-use Rattle.ff_linear.proofs.Columns.{AreLong, same_matrices, length_identity}
+use Rattle.alg_model.specs.Coefficients.{Carrier}
+use Rattle.alg_model.specs.Fields.{IsRing}
+use Rattle.alg_model.specs.Matrices.{Matrix, entry, identity_matrix, IsMatrix}
+use Rattle.alg_linear.proofs.Carriers.{matrix_long, identity_valid, entry_of_identity, delta_value}
+use Rattle.alg_linear.proofs.Columns.{AreLong, same_matrices, length_identity}
 
 module _ {A : Type 0} {c : Carrier A} (R : IsRing c) where
   pub identity_iff : (m : Matrix A) → IsMatrix c m → (n : ℕ) → m.rows ≡ n → length m.columns ≡ n

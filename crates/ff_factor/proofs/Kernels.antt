@@ -2,13 +2,13 @@
 use Rattle.std.proofs.Common.{◌≡◌, ◌≢◌, ℕ, zero, suc, ◌<◌, List, [], ◌∷◌, length, slice_index_or, refl, ap, ap₂, sym, ◌∙◌, arith}
 use Rattle.std.proofs.lemmas.List.{length-replicate}
 use Rattle.std.proofs.lemmas.List.Elements.{All-head, All-cons, All-replicate}
-use Rattle.ff_model.specs.Coefficients.{Carrier}
-use Rattle.ff_model.specs.Polynomials.{sum, scale}
-use Rattle.ff_model.specs.Fields.{IsField}
-use Rattle.ff_model.specs.Matrices.{Matrix, combination, zero_column, IsColumn, IsIndependent, IsInKernel, IsKernelBasis}
-use Rattle.ff_rings.specs.Laws.{IsPropositional}
-use Rattle.ff_rings.proofs.Rings
-use Rattle.ff_rings.proofs.Elements.{element_laws}
+use Rattle.alg_model.specs.Coefficients.{Carrier}
+use Rattle.alg_model.specs.Polynomials.{sum, scale}
+use Rattle.alg_model.specs.Fields.{IsField}
+use Rattle.alg_model.specs.Matrices.{Matrix, combination, zero_column, IsColumn, IsIndependent, IsInKernel, IsKernelBasis}
+use Rattle.alg_rings.specs.Laws.{IsPropositional}
+use Rattle.alg_rings.proofs.Rings
+use Rattle.alg_rings.proofs.Elements.{element_laws}
 
 pub record HasKernelMember {A : Type 0} (c : Carrier A) (m : Matrix A) (basis : List (List A)) : Type 0 where
   pub not_empty : 0 < length basis

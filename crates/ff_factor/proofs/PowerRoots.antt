@@ -4,27 +4,27 @@ use Rattle.std.proofs.Common.{◌≡◌, ⊎_elim, ℕ, zero, suc, ◌+◌, ◌-
 use Rattle.std.proofs.Math.Nat.{div-add-mod, mul-le-mul_left, mul-le-mul_right}
 use Rattle.std.proofs.lemmas.Bool.{cases_eq, cases_lt}
 use Rattle.std.proofs.lemmas.List.{length-map, nil_from_length, get_or_past}
-use Rattle.ff_model.specs.Coefficients.{Ops, Carrier, times, power}
-use Rattle.ff_model.specs.Polynomials.{trim, derivative}
-use Rattle.ff_model.specs.Factors.{IsMonic, IsProperFactor}
-use Rattle.ff_model.specs.Fields.{IsField}
-use Rattle.ff_rings.specs.Laws.{RingLaws, IsPropositional}
-use Rattle.ff_rings.proofs.Trims
-use Rattle.ff_rings.proofs.Carriers
-use Rattle.ff_rings.proofs.Homomorphisms
-use Rattle.ff_rings.proofs.Homomorphisms.{Homomorphism}
-use Rattle.ff_rings.proofs.Elements.{Element, value, element_ops, elements, elements_are, value_homomorphism, element_laws, values_valid}
-use Rattle.ff_rings.proofs.Divisors.{Polynomial, polynomial_ops, polynomial_laws, same_polynomial}
-use Rattle.ff_divisors.proofs.Polynomials.{divides_to}
-use Rattle.ff_fields.proofs.OnCarriers
-use Rattle.ff_fields.proofs.Frobenius.{IsPrime}
-use Rattle.ff_fields.proofs.Derivatives
-use Rattle.ff_fields.proofs.Derivatives.{raw_derivative}
-use Rattle.ff_fields.proofs.PowerRoots
-use Rattle.ff_fields.proofs.PowerRoots.{every}
-use Rattle.ff_fields.proofs.Constants.{constant_homomorphism}
-use Rattle.ff_fields.proofs.Classes.{class_of}
-use Rattle.ff_fields.proofs.Generator.{generator, value_at_generator}
+use Rattle.alg_model.specs.Coefficients.{Ops, Carrier, times, power}
+use Rattle.alg_model.specs.Polynomials.{trim, derivative}
+use Rattle.alg_model.specs.Factors.{IsMonic, IsProperFactor}
+use Rattle.alg_model.specs.Fields.{IsField}
+use Rattle.alg_rings.specs.Laws.{RingLaws, IsPropositional}
+use Rattle.alg_rings.proofs.Trims
+use Rattle.alg_rings.proofs.Carriers
+use Rattle.alg_rings.proofs.Homomorphisms
+use Rattle.alg_rings.proofs.Homomorphisms.{Homomorphism}
+use Rattle.alg_rings.proofs.Elements.{Element, value, element_ops, elements, elements_are, value_homomorphism, element_laws, values_valid}
+use Rattle.alg_rings.proofs.Divisors.{Polynomial, polynomial_ops, polynomial_laws, same_polynomial}
+use Rattle.alg_divisors.proofs.Polynomials.{divides_to}
+use Rattle.alg_fields.proofs.OnCarriers
+use Rattle.alg_fields.proofs.Frobenius.{IsPrime}
+use Rattle.alg_fields.proofs.Derivatives
+use Rattle.alg_fields.proofs.Derivatives.{raw_derivative}
+use Rattle.alg_fields.proofs.PowerRoots
+use Rattle.alg_fields.proofs.PowerRoots.{every}
+use Rattle.alg_fields.proofs.Constants.{constant_homomorphism}
+use Rattle.alg_fields.proofs.Classes.{class_of}
+use Rattle.alg_fields.proofs.Generator.{generator, value_at_generator}
 
 every_at : {A : Type 0} (p : ℕ) (z : A) → 0 < p → (j : ℕ) (f : List A) (i : ℕ) → slice_index_or (every p (λ a. a) j f) i z ≡ slice_index_or f (j + i * p) z
 every_at p z l j [] i = refl

@@ -2,15 +2,15 @@
 use Rattle.std.proofs.Common.{◌≡◌, ⊎_elim, ℕ, suc, ◌-◌, ◌*◌, ◌<◌, ◌≤◌, ◌==◌, cond, List, [], ◌∷◌, length, replicate, slice_index, All, ap, ap₂, sym, ◌∙◌, arith, subst, mod-eq_of_lt}
 use Rattle.std.proofs.lemmas.Bool.{cases_lt, ne_eqb}
 use Rattle.std.proofs.lemmas.List.{get_or_past}
-use Rattle.ff_model.specs.Coefficients.{Ops, mod_ops, residues}
-use Rattle.ff_model.specs.Polynomials.{trim, poly_power}
-use Rattle.ff_model.specs.Factors.{IsMonic, IsDivision}
-use Rattle.ff_model.specs.Fields.{IsField}
-use Rattle.ff_model.specs.Values.{degree, times_x, reduced}
-use Rattle.ff_model.specs.Matrices.{IsColumn}
-use Rattle.ff_rings.proofs.ResidueFields.{residues_field, residues_propositional, two_le_characteristic}
-use Rattle.ff_rings.proofs.Carriers
-use Rattle.ff_fields.proofs.Remainders.{reduced_value, reduced_one}
+use Rattle.alg_model.specs.Coefficients.{Ops, mod_ops, residues}
+use Rattle.alg_model.specs.Polynomials.{trim, poly_power}
+use Rattle.alg_model.specs.Factors.{IsMonic, IsDivision}
+use Rattle.alg_model.specs.Fields.{IsField}
+use Rattle.alg_model.specs.Values.{degree, times_x, reduced}
+use Rattle.alg_model.specs.Matrices.{IsColumn}
+use Rattle.alg_rings.proofs.ResidueFields.{residues_field, residues_propositional, two_le_characteristic}
+use Rattle.alg_rings.proofs.Carriers
+use Rattle.alg_fields.proofs.Remainders.{reduced_value, reduced_one}
 use Rattle.ff_poly.specs.Polynomial.{Polynomial, IsPoly}
 use Rattle.ff_factor.specs.Certificates.{berlekamp_column}
 use Rattle.ff_factor.specs.Splitting.{IsPowerOfVariable, ArePlacesOfPower, residues_modulo}

@@ -4,10 +4,10 @@ use Rattle.std.proofs.Math.Nat.{zero-mod, mod-add-mod, add-mod-mod, mul-le-mul}
 use Rattle.std.proofs.lemmas.List.{get_or-map, length-map}
 use Rattle.std.proofs.lemmas.List.Elements.{All-get_or, All-from_get_or}
 use Rattle.std.proofs.lemmas.Nat.{mul-mod_first}
-use Rattle.ff_model.specs.Coefficients.{Ops, mod_ops}
-use Rattle.ff_model.specs.Polynomials.{sum, scale}
-use Rattle.ff_model.specs.Values.{degree, times_x}
-use Rattle.ff_linear.proofs.Columns.{length_same_sum, length_scaled, same_sum_at, scaled_at, same_columns}
+use Rattle.alg_model.specs.Coefficients.{Ops, mod_ops}
+use Rattle.alg_model.specs.Polynomials.{sum, scale}
+use Rattle.alg_model.specs.Values.{degree, times_x}
+use Rattle.alg_linear.proofs.Columns.{length_same_sum, length_scaled, same_sum_at, scaled_at, same_columns}
 use Rattle.ff_factor.specs.Splitting.{residues_modulo}
 
 module _ {A : Type 0} (o : Ops A) (f r : List A) (sizes : length f ≡ length r + 1) where

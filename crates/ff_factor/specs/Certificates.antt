@@ -5,10 +5,10 @@
 --     Certifies f cert             cert shows both
 use Rattle.std.specs.Prelude.{◌≡◌, ℕ, ◌-◌, ◌*◌, ◌≤◌, List, [], ◌∷◌, length, map}
 use Rattle.std.specs.List.{range_with_len}
-use Rattle.ff_model.specs.Coefficients.{Ops, mod_ops}
-use Rattle.ff_model.specs.Polynomials.{poly_power, poly_difference, poly_sum, poly_product, derivative}
-use Rattle.ff_model.specs.Values.{degree, reduced}
-use Rattle.ff_model.specs.Matrices.{Matrix, matrix_product, identity_matrix}
+use Rattle.alg_model.specs.Coefficients.{Ops, mod_ops}
+use Rattle.alg_model.specs.Polynomials.{poly_power, poly_difference, poly_sum, poly_product, derivative}
+use Rattle.alg_model.specs.Values.{degree, reduced}
+use Rattle.alg_model.specs.Matrices.{Matrix, matrix_product, identity_matrix}
 use Rattle.ff_poly.specs.Polynomial.{Polynomial}
 use Rattle.ff_poly.specs.declared.TheConstants.{MAX_DEGREE}
 use Rattle.ff_factor.specs.declared.certificates.Cert.{Cert}

@@ -12,12 +12,12 @@
 use Rattle.std.specs.Prelude.{◌≡◌, ◌≢◌, ℕ, ◌+◌, ◌*◌, ◌%◌, ◌<◌, ◌≤◌, List, [], ◌∷◌, length, map, All}
 use Rattle.std.specs.List.Sorted.{IsSorted}
 use Rattle.std.specs.Ordering.{nat_cmp}
-use Rattle.ff_model.specs.Coefficients.{Carrier, residues, mod_ops}
-use Rattle.ff_model.specs.Polynomials.{poly_product, poly_power}
-use Rattle.ff_model.specs.Values.{degree, reduced}
-use Rattle.ff_model.specs.Factors.{IsPolynomial, IsMonic, IsProperFactor, IsIrreducible, order_by}
-use Rattle.ff_model.specs.Matrices.{Matrix, IsColumn, matrix_apply, zero_column}
-use Rattle.ff_divisors.specs.Factorization.{IsFactorization}
+use Rattle.alg_model.specs.Coefficients.{Carrier, residues, mod_ops}
+use Rattle.alg_model.specs.Polynomials.{poly_product, poly_power}
+use Rattle.alg_model.specs.Values.{degree, reduced}
+use Rattle.alg_model.specs.Factors.{IsPolynomial, IsMonic, IsProperFactor, IsIrreducible, order_by}
+use Rattle.alg_model.specs.Matrices.{Matrix, IsColumn, matrix_apply, zero_column}
+use Rattle.alg_divisors.specs.Factorization.{IsFactorization}
 use Rattle.ff_poly.specs.Polynomial.{Polynomial}
 use Rattle.ff_poly.specs.declared.TheConstants.{MAX_DEGREE}
 use Rattle.ff_factor.specs.Certificates.{Certifies}

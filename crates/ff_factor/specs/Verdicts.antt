@@ -2,9 +2,9 @@
 --     IsVerdict f v     irreducible with a certificate, or the least factor and its cofactor
 use Rattle.std.specs.Prelude.{◌≡◌}
 use Rattle.std.specs.Ordering.{nat_cmp}
-use Rattle.ff_model.specs.Coefficients.{residues, mod_ops}
-use Rattle.ff_model.specs.Polynomials.{poly_product}
-use Rattle.ff_model.specs.Factors.{IsIrreducible, IsLeastFactor}
+use Rattle.alg_model.specs.Coefficients.{residues, mod_ops}
+use Rattle.alg_model.specs.Polynomials.{poly_product}
+use Rattle.alg_model.specs.Factors.{IsIrreducible, IsLeastFactor}
 use Rattle.ff_poly.specs.Polynomial.{Polynomial}
 use Rattle.ff_factor.specs.Certificates.{Certifies}
 use Rattle.ff_factor.specs.declared.verdicts.Verdict.{Verdict}

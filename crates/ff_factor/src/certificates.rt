@@ -1,10 +1,10 @@
 //! Certificates of irreducibility.
 ghost use Rattle.std.specs.Prelude.{◌≡◌, ◌↔◌, ℕ, ◌+◌, ◌-◌, ◌<◌, ◌≤◌, ◌==◌, if◌then◌else◌, [], ◌∷◌, length, IsTrue};
-ghost use Rattle.ff_model.specs.Coefficients.{residues, mod_ops};
-ghost use Rattle.ff_model.specs.Polynomials.{poly_sum, poly_product, derivative};
-ghost use Rattle.ff_model.specs.Factors.{IsMonic, IsIrreducible};
-ghost use Rattle.ff_model.specs.Values.{degree};
-ghost use Rattle.ff_model.specs.Matrices.{entry, matrix_product, identity_matrix};
+ghost use Rattle.alg_model.specs.Coefficients.{residues, mod_ops};
+ghost use Rattle.alg_model.specs.Polynomials.{poly_sum, poly_product, derivative};
+ghost use Rattle.alg_model.specs.Factors.{IsMonic, IsIrreducible};
+ghost use Rattle.alg_model.specs.Values.{degree};
+ghost use Rattle.alg_model.specs.Matrices.{entry, matrix_product, identity_matrix};
 ghost use Rattle.ff_poly.specs.Polynomial.{Polynomial, IsPoly};
 ghost use Rattle.ff_matrix.specs.ModularMatrix.{IsModularMatrix};
 ghost use Rattle.ff_factor.specs.Certificates.{Certifies, berlekamp_matrix};

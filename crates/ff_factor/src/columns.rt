@@ -1,10 +1,10 @@
 //! The matrix of `v -> v^p - v` on the polynomials modulo `f`.
 ghost use Rattle.std.specs.Prelude.{◌≡◌, ℕ, ◌+◌, ◌-◌, ◌*◌, ◌^◌, ◌<◌, ◌≤◌, ◌==◌, if◌then◌else◌, ◌∷◌, length, replicate, map, All, slice_index};
 ghost use Rattle.std.specs.List.{range_with_len};
-ghost use Rattle.ff_model.specs.Coefficients.{residues, mod_ops};
-ghost use Rattle.ff_model.specs.Factors.{IsMonic};
-ghost use Rattle.ff_model.specs.Values.{degree, times_x};
-ghost use Rattle.ff_model.specs.Matrices.{IsColumn};
+ghost use Rattle.alg_model.specs.Coefficients.{residues, mod_ops};
+ghost use Rattle.alg_model.specs.Factors.{IsMonic};
+ghost use Rattle.alg_model.specs.Values.{degree, times_x};
+ghost use Rattle.alg_model.specs.Matrices.{IsColumn};
 ghost use Rattle.ff_poly.specs.Polynomial.{IsPoly};
 ghost use Rattle.ff_factor.specs.Certificates.{berlekamp_column, berlekamp_matrix};
 ghost use Rattle.ff_factor.specs.Splitting.{IsPowerOfVariable, ArePlacesOfPower, residues_modulo};

@@ -2,9 +2,9 @@
 ghost use Rattle.std.specs.Prelude.{◌≡◌, ◌≢◌, ℕ, ◌+◌, ◌<◌, ◌≤◌, [], length, All, slice_index_or};
 ghost use Rattle.std.specs.List.Sorted.{IsSorted};
 ghost use Rattle.std.specs.Ordering.{nat_cmp};
-ghost use Rattle.ff_model.specs.Coefficients.{residues, IsCharacteristic};
-ghost use Rattle.ff_model.specs.Factors.{IsMonic, IsIrreducible, IsProperFactor, order_by};
-ghost use Rattle.ff_divisors.specs.Factorization.{IsFactorization};
+ghost use Rattle.alg_model.specs.Coefficients.{residues, IsCharacteristic};
+ghost use Rattle.alg_model.specs.Factors.{IsMonic, IsIrreducible, IsProperFactor, order_by};
+ghost use Rattle.alg_divisors.specs.Factorization.{IsFactorization};
 ghost use Rattle.ff_poly.specs.Polynomial.{Polynomial};
 ghost use Rattle.ff_factor.specs.Splitting.{AreOver, Collects, IsCofactor, coefficients_of};
 

@@ -1,7 +1,7 @@
 //! Polynomials made from residues.
 ghost use Rattle.std.specs.Prelude.{◌≡◌, ℕ, ◌*◌, ◌<◌, ◌≤◌, [], ◌∷◌, length, All, slice_index};
-ghost use Rattle.ff_model.specs.Coefficients.{mod_ops};
-ghost use Rattle.ff_model.specs.Polynomials.{trim};
+ghost use Rattle.alg_model.specs.Coefficients.{mod_ops};
+ghost use Rattle.alg_model.specs.Polynomials.{trim};
 
 use arrayvec::ArrayVec;
 use ff_poly::{MAX_POLY, Poly, Prime};

@@ -1,13 +1,13 @@
 //! A proper factor of a polynomial, or a certificate that there is none.
 ghost use Rattle.std.specs.Prelude.{◌≡◌, ◌≢◌, ℕ, ◌+◌, ◌-◌, ◌≤◌, ◌<◌, List, [], ◌∷◌, length, All, slice_index_or};
-ghost use Rattle.ff_model.specs.Coefficients.{residues, mod_ops, IsCharacteristic};
-ghost use Rattle.ff_model.specs.Polynomials.{poly_sum, poly_product, derivative};
-ghost use Rattle.ff_model.specs.Factors.{IsMonic, IsProperFactor, IsIrreducible, IsGreatestCommonDivisor};
-ghost use Rattle.ff_model.specs.Matrices.{matrix_product, identity_matrix, combination, zero_column, IsColumn, IsIndependent};
-ghost use Rattle.ff_model.specs.Values.{degree};
+ghost use Rattle.alg_model.specs.Coefficients.{residues, mod_ops, IsCharacteristic};
+ghost use Rattle.alg_model.specs.Polynomials.{poly_sum, poly_product, derivative};
+ghost use Rattle.alg_model.specs.Factors.{IsMonic, IsProperFactor, IsIrreducible, IsGreatestCommonDivisor};
+ghost use Rattle.alg_model.specs.Matrices.{matrix_product, identity_matrix, combination, zero_column, IsColumn, IsIndependent};
+ghost use Rattle.alg_model.specs.Values.{degree};
 ghost use Rattle.ff_poly.specs.Polynomial.{IsPoly};
 ghost use Rattle.ff_matrix.specs.Echelons.{IsEchelonOf};
-ghost use Rattle.ff_fields.specs.Fixed.{IsFixed, less_constant};
+ghost use Rattle.alg_fields.specs.Fixed.{IsFixed, less_constant};
 ghost use Rattle.ff_factor.specs.Certificates.{Certifies, berlekamp_matrix};
 ghost use Rattle.ff_factor.specs.Splitting.{IsOutcome, IsNonzeroKernelColumn};
 

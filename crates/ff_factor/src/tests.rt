@@ -1,7 +1,7 @@
 //! Examples: counts after Gauss, and factorizations that were computed with SymPy.
 ghost use Rattle.std.specs.Prelude.{◌+◌, ◌<◌, ◌≤◌, length};
-ghost use Rattle.ff_model.specs.Coefficients.{residues};
-ghost use Rattle.ff_model.specs.Factors.{IsMonic};
+ghost use Rattle.alg_model.specs.Coefficients.{residues};
+ghost use Rattle.alg_model.specs.Factors.{IsMonic};
 
 use super::*;
 use ff_matrix::{Column, Matrix};

@@ -1,8 +1,8 @@
 //! Whether a polynomial is irreducible.
 ghost use Rattle.std.specs.Prelude.{◌≡◌, ◌+◌, ◌<◌, ◌≤◌, length};
 ghost use Rattle.std.specs.Ordering.{nat_cmp};
-ghost use Rattle.ff_model.specs.Coefficients.{residues};
-ghost use Rattle.ff_model.specs.Factors.{IsMonic, IsProperFactor, IsLeastFactor};
+ghost use Rattle.alg_model.specs.Coefficients.{residues};
+ghost use Rattle.alg_model.specs.Factors.{IsMonic, IsProperFactor, IsLeastFactor};
 ghost use Rattle.ff_factor.specs.Verdicts.{IsVerdict};
 
 use crate::factorization::{cofactor, collect};

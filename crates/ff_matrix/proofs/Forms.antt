@@ -4,25 +4,25 @@ use Rattle.std.specs.List.{range_with_len}
 use Rattle.std.proofs.lemmas.List.{get_or-map, length-map}
 use Rattle.std.proofs.lemmas.List.FromFn.{get_or-map-range_with_len, length-map-range_with_len}
 use Rattle.std.proofs.lemmas.List.Elements.{All-from_get_or}
-use Rattle.ff_model.specs.Coefficients.{Ops, Carrier, mod_ops, residues}
-use Rattle.ff_model.specs.Fields.{IsRing}
-use Rattle.ff_model.specs.Matrices.{Matrix, column_at, entry, IsColumn, IsMatrix, IsReduction}
-use Rattle.ff_rings.proofs.Residues.{residues_ring}
-use Rattle.ff_rings.specs.Laws.{IsPropositional, RingLaws}
-use Rattle.ff_rings.proofs.Elements.{Element, element_ops, element_laws, value_injective}
-use Rattle.ff_linear.proofs.RowOperations
-use Rattle.ff_linear.proofs.Reduction
-use Rattle.ff_linear.proofs.Reduction.{reduced_same}
-use Rattle.ff_linear.proofs.Solutions.{transformed_from_augmented, transformed_same}
-use Rattle.ff_linear.proofs.Carriers.{delta_value}
-use Rattle.ff_linear.proofs.Elimination.{IsEliminated, row_entries}
-use Rattle.ff_linear.proofs.Matrices.{entries}
-use Rattle.ff_linear.proofs.Echelons.{reduction_lists}
+use Rattle.alg_model.specs.Coefficients.{Ops, Carrier, mod_ops, residues}
+use Rattle.alg_model.specs.Fields.{IsRing}
+use Rattle.alg_model.specs.Matrices.{Matrix, column_at, entry, IsColumn, IsMatrix, IsReduction}
+use Rattle.alg_rings.proofs.Residues.{residues_ring}
+use Rattle.alg_rings.specs.Laws.{IsPropositional, RingLaws}
+use Rattle.alg_rings.proofs.Elements.{Element, element_ops, element_laws, value_injective}
+use Rattle.alg_linear.proofs.RowOperations
+use Rattle.alg_linear.proofs.Reduction
+use Rattle.alg_linear.proofs.Reduction.{reduced_same}
+use Rattle.alg_linear.proofs.Solutions.{transformed_from_augmented, transformed_same}
+use Rattle.alg_linear.proofs.Carriers.{delta_value}
+use Rattle.alg_linear.proofs.Elimination.{IsEliminated, row_entries}
+use Rattle.alg_linear.proofs.Matrices.{entries}
+use Rattle.alg_linear.proofs.Echelons.{reduction_lists}
 use Rattle.ff_matrix.specs.declared.TheConstants.{MAX_WIDTH}
 use Rattle.ff_poly.proofs.Characteristics.{characteristic_small}
 use Rattle.ff_matrix.specs.ModularMatrix.{IsModularMatrix}
 use Rattle.ff_matrix.specs.Rows.{AreRows, IsAugmented, Eliminates}
-use Rattle.ff_rings.proofs.ResidueFields.{residues_propositional}
+use Rattle.alg_rings.proofs.ResidueFields.{residues_propositional}
 
 -- the columns of rows, from start on
 abbrev pub block : List (List ℕ) → ℕ → ℕ → Matrix ℕ

@@ -3,21 +3,21 @@ use Rattle.std.proofs.Common.{◌≡◌, ◌≢◌, ◌⊎◌, ℕ, zero, suc, �
 use Rattle.std.proofs.lemmas.Bool.{cases_eq, cases_lt}
 use Rattle.std.proofs.lemmas.List.{get_or-map, length-map, get_or-take}
 use Rattle.std.proofs.lemmas.List.Elements.{All-from_get_or}
-use Rattle.ff_model.specs.Coefficients.{Carrier, mod_ops, residues}
-use Rattle.ff_model.specs.Fields.{IsRing}
-use Rattle.ff_model.specs.Matrices.{Matrix, column_at, matrix_apply, matrix_product, identity_matrix, IsColumn, IsMatrix, IsIndependent, IsKernelBasis}
-use Rattle.ff_rings.proofs.Residues.{residues_ring}
-use Rattle.ff_linear.proofs.Grids
-use Rattle.ff_linear.proofs.Grids.{delta_same, delta_other}
-use Rattle.ff_linear.proofs.Solutions.{AreFree, rising_few}
-use Rattle.ff_linear.proofs.Echelons.{form_rows, form_columns}
-use Rattle.ff_linear.proofs.Kernels
+use Rattle.alg_model.specs.Coefficients.{Carrier, mod_ops, residues}
+use Rattle.alg_model.specs.Fields.{IsRing}
+use Rattle.alg_model.specs.Matrices.{Matrix, column_at, matrix_apply, matrix_product, identity_matrix, IsColumn, IsMatrix, IsIndependent, IsKernelBasis}
+use Rattle.alg_rings.proofs.Residues.{residues_ring}
+use Rattle.alg_linear.proofs.Grids
+use Rattle.alg_linear.proofs.Grids.{delta_same, delta_other}
+use Rattle.alg_linear.proofs.Solutions.{AreFree, rising_few}
+use Rattle.alg_linear.proofs.Echelons.{form_rows, form_columns}
+use Rattle.alg_linear.proofs.Kernels
 use Rattle.ff_poly.proofs.Characteristics.{characteristic_small}
 use Rattle.ff_matrix.specs.declared.echelon.Echelon.{Echelon}
 use Rattle.ff_matrix.specs.Echelons.{IsEchelonOf}
 use Rattle.ff_matrix.specs.ModularMatrix.{ModularMatrix}
 use Rattle.ff_matrix.specs.Rows.{ArePlaces, IsKernelColumn}
-use Rattle.ff_rings.proofs.ResidueFields.{residues_propositional}
+use Rattle.alg_rings.proofs.ResidueFields.{residues_propositional}
 
 -- a number stands at a place of the list, or at none
 pub place_or_not : (xs : List ℕ) (k : ℕ) → ((i : ℕ) × (i < length xs) × (get_or xs i 0 ≡ k)) ⊎ ((i : ℕ) → i < length xs → get_or xs i 0 ≢ k)

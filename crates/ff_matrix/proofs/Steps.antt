@@ -7,14 +7,14 @@ use Rattle.std.proofs.lemmas.List.Elements.{All-from_get_or, All-set}
 use Rattle.std.proofs.lemmas.List.Edits.{length-swap}
 use native.Mathlib.Nat.{mul_comm}
 use Rattle.std.proofs.Math.Nat.{mod-eq_of_lt, zero-mul, zero-mod, zero-add}
-use Rattle.ff_model.specs.Coefficients.{mod_ops, residues}
-use Rattle.ff_model.specs.Polynomials.{sum, scale}
-use Rattle.ff_model.specs.Matrices.{IsColumn}
-use Rattle.ff_rings.proofs.Residues.{residues_ring}
-use Rattle.ff_rings.proofs.ResidueFields.{residues_propositional}
-use Rattle.ff_linear.proofs.Columns.{length_scaled, sum_scale_by_places}
-use Rattle.ff_linear.proofs.RowOperations.{swapped, swapped_first, swapped_below}
-use Rattle.ff_linear.proofs.Elimination.{IsPivotStep, eliminated_start, eliminated_with_pivot, eliminated_without_pivot, swap_at}
+use Rattle.alg_model.specs.Coefficients.{mod_ops, residues}
+use Rattle.alg_model.specs.Polynomials.{sum, scale}
+use Rattle.alg_model.specs.Matrices.{IsColumn}
+use Rattle.alg_rings.proofs.Residues.{residues_ring}
+use Rattle.alg_rings.proofs.ResidueFields.{residues_propositional}
+use Rattle.alg_linear.proofs.Columns.{length_scaled, sum_scale_by_places}
+use Rattle.alg_linear.proofs.RowOperations.{swapped, swapped_first, swapped_below}
+use Rattle.alg_linear.proofs.Elimination.{IsPivotStep, eliminated_start, eliminated_with_pivot, eliminated_without_pivot, swap_at}
 use Rattle.ff_matrix.specs.declared.TheConstants.{MAX_WIDTH}
 use Rattle.ff_matrix.specs.Rows.{AreRows, IsCleared, Eliminates}
 

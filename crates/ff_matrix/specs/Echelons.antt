@@ -1,8 +1,8 @@
 -- What a contract sees of an `Echelon`.
 --     IsEchelonOf m e       e has the reduced row echelon form of the matrix m, over the same prime
 use Rattle.std.specs.Prelude.{◌≡◌}
-use Rattle.ff_model.specs.Coefficients.{residues}
-use Rattle.ff_model.specs.Matrices.{IsReduction}
+use Rattle.alg_model.specs.Coefficients.{residues}
+use Rattle.alg_model.specs.Matrices.{IsReduction}
 use Rattle.ff_matrix.specs.declared.echelon.Echelon.{Echelon}
 use Rattle.ff_matrix.specs.ModularMatrix.{ModularMatrix, IsModularMatrix}
 

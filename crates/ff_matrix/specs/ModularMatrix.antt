@@ -2,8 +2,8 @@
 --     ModularMatrix         a characteristic, and a matrix over the residues modulo it
 --     IsModularMatrix m     m is such a matrix, of at most MAX_DEGREE rows and columns
 use Rattle.std.specs.Prelude.{ℕ, ◌≤◌, length}
-use Rattle.ff_model.specs.Coefficients.{residues, IsCharacteristic}
-use Rattle.ff_model.specs.Matrices.{Matrix, IsMatrix}
+use Rattle.alg_model.specs.Coefficients.{residues, IsCharacteristic}
+use Rattle.alg_model.specs.Matrices.{Matrix, IsMatrix}
 use Rattle.ff_poly.specs.declared.TheConstants.{MAX_DEGREE}
 
 pub record ModularMatrix : Type 0 where

@@ -6,11 +6,11 @@
 --     IsAugmented p m rows             the rows of m beside the identity
 --     Eliminates p m start rows pivots     rows come from start by an invertible matrix, and their first m columns are reduced
 use Rattle.std.specs.Prelude.{◌≡◌, ◌≢◌, ℕ, ◌+◌, ◌<◌, ◌==◌, if◌then◌else◌, List, [], length, All, slice_index, slice_index_or}
-use Rattle.ff_model.specs.Coefficients.{Ops, residues, mod_ops}
-use Rattle.ff_model.specs.Polynomials.{sum, scale}
-use Rattle.ff_model.specs.Matrices.{Matrix, entry, IsColumn}
-use Rattle.ff_rings.proofs.Residues.{residues_ring}
-use Rattle.ff_linear.proofs.Elimination.{IsEliminated}
+use Rattle.alg_model.specs.Coefficients.{Ops, residues, mod_ops}
+use Rattle.alg_model.specs.Polynomials.{sum, scale}
+use Rattle.alg_model.specs.Matrices.{Matrix, entry, IsColumn}
+use Rattle.alg_rings.proofs.Residues.{residues_ring}
+use Rattle.alg_linear.proofs.Elimination.{IsEliminated}
 use Rattle.ff_matrix.specs.declared.TheConstants.{MAX_WIDTH}
 
 abbrev pub AreRows : ℕ → List (List ℕ) → Type 0

@@ -1,8 +1,8 @@
 //! The reduced row echelon form of a matrix.
 ghost use Rattle.std.specs.Prelude.{◌≡◌, ℕ, ◌+◌, ◌<◌, ◌≤◌, ◌==◌, if◌then◌else◌, length, map, replicate, All, slice_index};
 ghost use Rattle.std.specs.List.{range_with_len};
-ghost use Rattle.ff_model.specs.Coefficients.{residues, mod_ops};
-ghost use Rattle.ff_model.specs.Matrices.{entry, IsColumn};
+ghost use Rattle.alg_model.specs.Coefficients.{residues, mod_ops};
+ghost use Rattle.alg_model.specs.Matrices.{entry, IsColumn};
 ghost use Rattle.ff_matrix.specs.Echelons.{IsEchelonOf};
 ghost use Rattle.ff_matrix.specs.ModularMatrix.{IsModularMatrix};
 ghost use Rattle.ff_matrix.specs.Rows.{AreRows, IsAugmented};

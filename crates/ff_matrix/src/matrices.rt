@@ -1,7 +1,7 @@
 //! Matrices over the residues modulo a prime.
 ghost use Rattle.std.specs.Prelude.{◌≡◌, ◌+◌, ◌<◌, ◌≤◌, length, map, All};
-ghost use Rattle.ff_model.specs.Coefficients.{residues, mod_ops};
-ghost use Rattle.ff_model.specs.Matrices.{entry, combination, matrix_apply, matrix_product, IsColumn};
+ghost use Rattle.alg_model.specs.Coefficients.{residues, mod_ops};
+ghost use Rattle.alg_model.specs.Matrices.{entry, combination, matrix_apply, matrix_product, IsColumn};
 
 use crate::columns::copied;
 use crate::places::{add_multiple, zeros};

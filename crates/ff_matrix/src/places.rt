@@ -1,7 +1,7 @@
 //! Operations on the places of a column or a row.
 ghost use Rattle.std.specs.Prelude.{◌≡◌, ℕ, ◌+◌, ◌/◌, ◌%◌, ◌<◌, ◌≤◌, length, replicate, All};
-ghost use Rattle.ff_model.specs.Coefficients.{mod_ops};
-ghost use Rattle.ff_model.specs.Polynomials.{sum, scale};
+ghost use Rattle.alg_model.specs.Coefficients.{mod_ops};
+ghost use Rattle.alg_model.specs.Polynomials.{sum, scale};
 
 use arrayvec::ArrayVec;
 use ff_poly::{MAX_DEGREE, Prime};

@@ -7,7 +7,7 @@ use Rattle.std.proofs.lemmas.List.FromFn.{get_or-range_with_len, length-range_wi
 use Rattle.std.proofs.lemmas.Bool.Decides.{nat_tests}
 use Rattle.std.proofs.lemmas.Nat.{mul-mod_first, mul-mod_second, mod_below}
 use Rattle.std.proofs.Math.Nat.{div-add-mod, mul_assoc, mul-add-mod_self_right, mod-eq_of_lt}
-use Rattle.ff_model.specs.Coefficients.{primes, IsCharacteristic}
+use Rattle.alg_model.specs.Coefficients.{primes, IsCharacteristic}
 
 -- what holds of each of the eleven holds of a characteristic
 pub each_characteristic : (P : ℕ → Type 0) → AllByRecursion P primes → (p : ℕ) → IsCharacteristic p → P p

@@ -3,9 +3,9 @@ use Rattle.std.proofs.Common.{◌≡◌, ℕ, zero, suc, ◌+◌, ◌-◌, ◌*�
 use Rattle.std.proofs.lemmas.Bool.{cases_lt}
 use Rattle.std.proofs.lemmas.List.{get_or_past}
 use native.Mathlib.Nat.{zero-mul, mul-zero, add-zero, zero-mod}
-use Rattle.ff_model.specs.Coefficients.{mod_ops}
-use Rattle.ff_model.specs.Polynomials.{product, convolution_to, convolution}
-use Rattle.ff_rings.proofs.Residues.{nat_ops, product_mod}
+use Rattle.alg_model.specs.Coefficients.{mod_ops}
+use Rattle.alg_model.specs.Polynomials.{product, convolution_to, convolution}
+use Rattle.alg_rings.proofs.Residues.{nat_ops, product_mod}
 use Rattle.ff_poly.proofs.ListPlaces.{take_past, cut_at}
 
 take_before : (i j : ℕ) (f : List ℕ) → j < i → slice_index (take (i + 1) f) j ≡ slice_index (take i f) j

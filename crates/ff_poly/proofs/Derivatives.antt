@@ -2,8 +2,8 @@
 use Rattle.std.proofs.Common.{◌≡◌, ℕ, zero, suc, ◌+◌, ◌-◌, ◌*◌, ◌%◌, ◌≤◌, List, [], ◌∷◌, length, slice_index, refl, ap, sym, ◌∙◌, arith}
 use Rattle.std.proofs.lemmas.List.{get_or_past}
 use native.Mathlib.Nat.{zero-mod, zero-mul, mul-zero, add-mod-mod}
-use Rattle.ff_model.specs.Coefficients.{mod_ops, times}
-use Rattle.ff_model.specs.Polynomials.{trim, multiples_from, derivative}
+use Rattle.alg_model.specs.Coefficients.{mod_ops, times}
+use Rattle.alg_model.specs.Polynomials.{trim, multiples_from, derivative}
 
 pub times_mod : (p n a : ℕ) → times (mod_ops p) n a ≡ (n * a) % p
 times_mod p zero a = sym (ap (λ w. w % p) (zero-mul a) ∙ zero-mod p)

@@ -3,19 +3,19 @@ use Rattle.std.proofs.Common.{◌≡◌, ◌≢◌, ◌⊎◌, ℕ, ◌+◌, ◌
 use Rattle.std.proofs.lemmas.Bool.{cases_eq}
 use Rattle.std.proofs.lemmas.List.{nil_from_length}
 use Rattle.std.proofs.lemmas.List.Elements.{All-nil, All-cons}
-use Rattle.ff_model.specs.Coefficients.{Ops, Carrier}
-use Rattle.ff_model.specs.Polynomials.{trim, poly_sum, poly_difference, poly_product, leading}
-use Rattle.ff_model.specs.Factors.{IsPolynomial, IsMonic, Divides, IsDivision, IsGreatestCommonDivisor}
-use Rattle.ff_model.specs.Fields.{IsRing, IsField}
-use Rattle.ff_rings.specs.Laws.{RingLaws, IsPropositional}
-use Rattle.ff_rings.proofs.Rings
-use Rattle.ff_rings.proofs.Lists.{nil_or_not, length_not_nil, not_nil_from_length, sum_nil, product_nil}
-use Rattle.ff_rings.proofs.Trims.{length_poly_difference}
-use Rattle.ff_rings.proofs.Carriers.{trim_polynomial, poly_product_polynomial, poly_sum_comm, poly_product_assoc, one_poly_product}
-use Rattle.ff_rings.proofs.Elements.{value, element_laws}
-use Rattle.ff_rings.proofs.Validity.{leading_valid}
-use Rattle.ff_rings.proofs.Divisors.{Polynomial, polynomial_ops, polynomial_laws, same_polynomial, divides_nil, divides_sum, divides_product, divides_difference, divides_transitive, divides_multiple, length_poly_product, leading_poly_product}
-use Rattle.ff_divisors.proofs.Fields.{constant_trimmed, leading_not_zero}
+use Rattle.alg_model.specs.Coefficients.{Ops, Carrier}
+use Rattle.alg_model.specs.Polynomials.{trim, poly_sum, poly_difference, poly_product, leading}
+use Rattle.alg_model.specs.Factors.{IsPolynomial, IsMonic, Divides, IsDivision, IsGreatestCommonDivisor}
+use Rattle.alg_model.specs.Fields.{IsRing, IsField}
+use Rattle.alg_rings.specs.Laws.{RingLaws, IsPropositional}
+use Rattle.alg_rings.proofs.Rings
+use Rattle.alg_rings.proofs.Lists.{nil_or_not, length_not_nil, not_nil_from_length, sum_nil, product_nil}
+use Rattle.alg_rings.proofs.Trims.{length_poly_difference}
+use Rattle.alg_rings.proofs.Carriers.{trim_polynomial, poly_product_polynomial, poly_sum_comm, poly_product_assoc, one_poly_product}
+use Rattle.alg_rings.proofs.Elements.{value, element_laws}
+use Rattle.alg_rings.proofs.Validity.{leading_valid}
+use Rattle.alg_rings.proofs.Divisors.{Polynomial, polynomial_ops, polynomial_laws, same_polynomial, divides_nil, divides_sum, divides_product, divides_difference, divides_transitive, divides_multiple, length_poly_product, leading_poly_product}
+use Rattle.alg_divisors.proofs.Fields.{constant_trimmed, leading_not_zero}
 
 -- u * a + w * b = g
 pub record Combines {A : Type 0} (o : Ops A) (a b u w g : List A) : Type 0 where

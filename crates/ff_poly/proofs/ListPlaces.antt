@@ -3,10 +3,10 @@ use Rattle.std.proofs.Common.{◌≡◌, ◌≢◌, ℕ, zero, suc, ◌+◌, ◌
 use Rattle.std.proofs.lemmas.Bool.{cases_lt}
 use Rattle.std.proofs.lemmas.List.{get_or_past, get_or-replicate, length-replicate}
 use native.Mathlib.Nat.{zero-mod, add-mul-mod_self_left}
-use Rattle.ff_model.specs.Coefficients.{mod_ops}
-use Rattle.ff_model.specs.Polynomials.{sum, trim, leading}
-use Rattle.ff_rings.proofs.Residues.{zero_test}
-use Rattle.ff_rings.proofs.Trims.{leading_at, trim_is, trimmed_from_leading}
+use Rattle.alg_model.specs.Coefficients.{mod_ops}
+use Rattle.alg_model.specs.Polynomials.{sum, trim, leading}
+use Rattle.alg_rings.proofs.Residues.{zero_test}
+use Rattle.alg_rings.proofs.Trims.{leading_at, trim_is, trimmed_from_leading}
 
 -- a place stands before i, or at i + j
 pub place_cases : (P : ℕ → Type 0) (i k : ℕ) → (k < i → P k) → ((j : ℕ) → P (i + j)) → P k

@@ -3,7 +3,7 @@ use Rattle.std.proofs.Common.{◌≡◌, ◌≢◌, ℕ, zero, suc, ◌+◌, ◌
 use Rattle.std.specs.Ordering.{MatchOrdering, nat_cmp, ordering_then}
 use Rattle.std.proofs.lemmas.Cmp.{ranked}
 use Rattle.std.proofs.lemmas.List.{drop_more, drop_all}
-use Rattle.ff_model.specs.Factors.{order_by}
+use Rattle.alg_model.specs.Factors.{order_by}
 
 then_decided : (r s : Ordering) → r ≢ Equal → ordering_then r s ≡ r
 then_decided Less s h = refl

@@ -1,14 +1,14 @@
 -- Powers of polynomials modulo another, by squaring.
 use Rattle.std.proofs.Common.{◌≡◌, ℕ, ◌+◌, ◌<◌, List, length, refl, ap, sym, ◌∙◌, add-one}
-use Rattle.ff_model.specs.Coefficients.{Ops, Carrier, power}
-use Rattle.ff_model.specs.Polynomials.{poly_product, poly_power}
-use Rattle.ff_model.specs.Factors.{IsPolynomial, IsDivision}
-use Rattle.ff_model.specs.Fields.{IsField}
-use Rattle.ff_rings.specs.Laws.{RingLaws, IsPropositional}
-use Rattle.ff_rings.proofs.Divisors.{Polynomial, polynomial_ops, polynomial_laws, same_polynomial}
-use Rattle.ff_fields.proofs.Modulo.{Same, same_itself, same_from_equal, same_trans, same_product, same_power}
-use Rattle.ff_fields.proofs.Powers.{power_add}
-use Rattle.ff_fields.proofs.Certificates.{power_is}
+use Rattle.alg_model.specs.Coefficients.{Ops, Carrier, power}
+use Rattle.alg_model.specs.Polynomials.{poly_product, poly_power}
+use Rattle.alg_model.specs.Factors.{IsPolynomial, IsDivision}
+use Rattle.alg_model.specs.Fields.{IsField}
+use Rattle.alg_rings.specs.Laws.{RingLaws, IsPropositional}
+use Rattle.alg_rings.proofs.Divisors.{Polynomial, polynomial_ops, polynomial_laws, same_polynomial}
+use Rattle.alg_fields.proofs.Modulo.{Same, same_itself, same_from_equal, same_trans, same_product, same_power}
+use Rattle.alg_fields.proofs.Powers.{power_add}
+use Rattle.alg_fields.proofs.Certificates.{power_is}
 
 -- r is the remainder of a by f
 abbrev pub Leaves : {A : Type 0} → Carrier A → List A → List A → List A → Type 0

@@ -5,16 +5,16 @@ use Rattle.std.proofs.lemmas.List.{get_or_past, get_or-drop, get_or-set_same, ge
 use Rattle.std.proofs.lemmas.List.Elements.{All-from_get_or}
 use Rattle.std.proofs.lemmas.Nat.{mul-mod_first, mul-mod_second, mul-le}
 use native.Mathlib.Nat.{mod-add-mod, add-mod-mod, mod-mod, mul_assoc, mul_comm, mul-one, mul-zero, add-zero, zero-add, zero-mod, add_assoc, add_comm, add-mul-mod_self_left}
-use Rattle.ff_model.specs.Coefficients.{mod_ops, residues}
-use Rattle.ff_model.specs.Polynomials.{sum, product, trim, poly_product, convolution}
-use Rattle.ff_model.specs.Factors.{IsPolynomial, IsDivision}
-use Rattle.ff_model.specs.Fields.{IsRing}
-use Rattle.ff_rings.proofs.Lists.{convolution_to_cons, convolution_to_same}
-use Rattle.ff_rings.proofs.Trims.{trim_at, trim_is, length_trim_below}
-use Rattle.ff_rings.proofs.Residues.{nat_ops, zero_test, product_mod, poly_product_mod, residues_ring}
-use Rattle.ff_rings.proofs.ResidueFields.{residues_propositional}
-use Rattle.ff_rings.proofs.Validity.{place_valid}
-use Rattle.ff_rings.proofs.Carriers.{sum_at}
+use Rattle.alg_model.specs.Coefficients.{mod_ops, residues}
+use Rattle.alg_model.specs.Polynomials.{sum, product, trim, poly_product, convolution}
+use Rattle.alg_model.specs.Factors.{IsPolynomial, IsDivision}
+use Rattle.alg_model.specs.Fields.{IsRing}
+use Rattle.alg_rings.proofs.Lists.{convolution_to_cons, convolution_to_same}
+use Rattle.alg_rings.proofs.Trims.{trim_at, trim_is, length_trim_below}
+use Rattle.alg_rings.proofs.Residues.{nat_ops, zero_test, product_mod, poly_product_mod, residues_ring}
+use Rattle.alg_rings.proofs.ResidueFields.{residues_propositional}
+use Rattle.alg_rings.proofs.Validity.{place_valid}
+use Rattle.alg_rings.proofs.Carriers.{sum_at}
 use Rattle.ff_poly.proofs.Convolutions.{convolution_nil}
 use Rattle.ff_poly.proofs.ListPlaces.{place_cases}
 

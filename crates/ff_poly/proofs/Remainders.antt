@@ -1,13 +1,13 @@
 -- What each remainder of the extended algorithm of Euclid keeps.
 use Rattle.std.proofs.Common.{◌≡◌, ◌≢◌, ℕ, ◌<◌, ◌≤◌, max, List, [], ◌∷◌, length, refl, ap, ap₂, sym, ◌∙◌, subst, arith}
-use Rattle.ff_model.specs.Coefficients.{mod_ops, residues, IsCharacteristic}
-use Rattle.ff_model.specs.Polynomials.{poly_sum, poly_difference, poly_product}
-use Rattle.ff_model.specs.Factors.{IsPolynomial, IsDivision, IsGreatestCommonDivisor}
-use Rattle.ff_model.specs.Fields.{IsField}
-use Rattle.ff_rings.specs.Laws.{IsPropositional}
-use Rattle.ff_rings.proofs.Trims.{length_poly_difference}
-use Rattle.ff_rings.proofs.ResidueFields.{residues_propositional, residues_field}
-use Rattle.ff_rings.proofs.Carriers.{nil_polynomial, one_polynomial, poly_product_polynomial, poly_difference_polynomial}
+use Rattle.alg_model.specs.Coefficients.{mod_ops, residues, IsCharacteristic}
+use Rattle.alg_model.specs.Polynomials.{poly_sum, poly_difference, poly_product}
+use Rattle.alg_model.specs.Factors.{IsPolynomial, IsDivision, IsGreatestCommonDivisor}
+use Rattle.alg_model.specs.Fields.{IsField}
+use Rattle.alg_rings.specs.Laws.{IsPropositional}
+use Rattle.alg_rings.proofs.Trims.{length_poly_difference}
+use Rattle.alg_rings.proofs.ResidueFields.{residues_propositional, residues_field}
+use Rattle.alg_rings.proofs.Carriers.{nil_polynomial, one_polynomial, poly_product_polynomial, poly_difference_polynomial}
 use Rattle.ff_poly.specs.Normalizer.{IsNormalizer}
 use Rattle.ff_poly.specs.declared.divisors.Bezout.{Bezout}
 use Rattle.ff_poly.proofs.Euclid.{Combines, combines_first, combines_second, combines_step, combines_multiple, Short, short_start, short_step, Times, division_sizes, length_product_le, length_nil_product, length_product_nil, multiplier_polynomial, multiple_gcd}

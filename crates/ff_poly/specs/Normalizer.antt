@@ -1,8 +1,8 @@
 -- How a polynomial is made monic. No public clause cites this module.
 --     IsNormalizer p f k     k is the constant polynomial of the inverse of f's last coefficient
 use Rattle.std.specs.Prelude.{◌≡◌, ℕ, ◌<◌, List, [], ◌∷◌}
-use Rattle.ff_model.specs.Coefficients.{mod_ops}
-use Rattle.ff_model.specs.Polynomials.{trim, leading}
+use Rattle.alg_model.specs.Coefficients.{mod_ops}
+use Rattle.alg_model.specs.Polynomials.{trim, leading}
 
 pub record IsNormalizer (p : ℕ) (f k : List ℕ) : Type 0 where
   pub inverse : ℕ

@@ -2,8 +2,8 @@
 --     Polynomial     a characteristic, and the coefficients of a polynomial over the residues modulo it
 --     IsPoly f       f is such a polynomial, of at most MAX_POLY coefficients
 use Rattle.std.specs.Prelude.{◌≤◌, ℕ, List, length}
-use Rattle.ff_model.specs.Coefficients.{residues, IsCharacteristic}
-use Rattle.ff_model.specs.Factors.{IsPolynomial}
+use Rattle.alg_model.specs.Coefficients.{residues, IsCharacteristic}
+use Rattle.alg_model.specs.Factors.{IsPolynomial}
 use Rattle.ff_poly.specs.declared.TheConstants.{MAX_POLY}
 
 -- coefficients modulo a prime, lowest first

@@ -1,6 +1,6 @@
 //! The characteristics, and arithmetic modulo one of them.
 ghost use Rattle.std.specs.Prelude.{◌≡◌, ◌≢◌, ◌<◌, ◌≤◌, SomeIff};
-ghost use Rattle.ff_model.specs.Coefficients.{IsCharacteristic, mod_ops};
+ghost use Rattle.alg_model.specs.Coefficients.{IsCharacteristic, mod_ops};
 
 use crate::PRIMES;
 use std::marker::Model;
@@ -16,7 +16,7 @@ pub struct Prime {
 
 impl Model for Prime {
     ghost use Rattle.std.specs.Prelude.{ℕ};
-    ghost use Rattle.ff_model.specs.Coefficients.{IsCharacteristic};
+    ghost use Rattle.alg_model.specs.Coefficients.{IsCharacteristic};
 
     ghost Value = { ℕ };
 

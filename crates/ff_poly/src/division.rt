@@ -1,8 +1,8 @@
 //! Division with remainder.
 ghost use Rattle.std.specs.Prelude.{◌≡◌, ◌≢◌, ℕ, ◌+◌, ◌-◌, ◌*◌, ◌%◌, ◌<◌, ◌≤◌, [], length, slice_index, All};
-ghost use Rattle.ff_model.specs.Coefficients.{mod_ops, residues};
-ghost use Rattle.ff_model.specs.Factors.{IsDivision};
-ghost use Rattle.ff_model.specs.Polynomials.{product};
+ghost use Rattle.alg_model.specs.Coefficients.{mod_ops, residues};
+ghost use Rattle.alg_model.specs.Factors.{IsDivision};
+ghost use Rattle.alg_model.specs.Polynomials.{product};
 ghost use Rattle.ff_poly.specs.Polynomial.{IsPoly};
 
 use crate::places::{add_multiple, blank_residues, places_of, poly_of_places};

@@ -1,8 +1,8 @@
 //! Greatest common divisors, and how they combine two polynomials.
 ghost use Rattle.std.specs.Prelude.{◌≡◌, ◌≢◌, ℕ, ◌+◌, ◌-◌, ◌<◌, ◌≤◌, max, List, [], ◌∷◌, length};
-ghost use Rattle.ff_model.specs.Coefficients.{mod_ops, residues};
-ghost use Rattle.ff_model.specs.Polynomials.{trim, poly_sum, poly_difference, poly_product, leading};
-ghost use Rattle.ff_model.specs.Factors.{IsDivision, IsGreatestCommonDivisor};
+ghost use Rattle.alg_model.specs.Coefficients.{mod_ops, residues};
+ghost use Rattle.alg_model.specs.Polynomials.{trim, poly_sum, poly_difference, poly_product, leading};
+ghost use Rattle.alg_model.specs.Factors.{IsDivision, IsGreatestCommonDivisor};
 ghost use Rattle.ff_poly.specs.Normalizer.{IsNormalizer};
 ghost use Rattle.ff_poly.specs.Polynomial.{IsPoly};
 

@@ -1,7 +1,7 @@
 //! Lists of coefficients as slices, added up in 32 bits and reduced at the end.
 ghost use Rattle.std.specs.Prelude.{◌≡◌, ℕ, ◌+◌, ◌*◌, ◌%◌, ◌^◌, ◌<◌, ◌≤◌, List, length, slice_index, All};
-ghost use Rattle.ff_model.specs.Coefficients.{mod_ops};
-ghost use Rattle.ff_model.specs.Polynomials.{trim};
+ghost use Rattle.alg_model.specs.Coefficients.{mod_ops};
+ghost use Rattle.alg_model.specs.Polynomials.{trim};
 ghost use Rattle.ff_poly.specs.Polynomial.{IsPoly};
 
 use crate::{MAX_POLY, Poly, Prime};

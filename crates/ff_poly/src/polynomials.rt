@@ -1,9 +1,9 @@
 //! Polynomials over the residues modulo a prime.
 ghost use Rattle.std.specs.Prelude.{◌≡◌, ℕ, ◌<◌, ◌≤◌, ◌↔◌, [], length, take, All, IsTrue, IsSome, IfSome};
 ghost use Rattle.std.specs.Ordering.{nat_cmp};
-ghost use Rattle.ff_model.specs.Coefficients.{residues, mod_ops};
-ghost use Rattle.ff_model.specs.Polynomials.{trim};
-ghost use Rattle.ff_model.specs.Factors.{order_by};
+ghost use Rattle.alg_model.specs.Coefficients.{residues, mod_ops};
+ghost use Rattle.alg_model.specs.Polynomials.{trim};
+ghost use Rattle.alg_model.specs.Factors.{order_by};
 
 use crate::{MAX_POLY, Prime};
 use arrayvec::ArrayVec;

@@ -1,8 +1,8 @@
 //! Powers modulo a polynomial.
 ghost use Rattle.std.specs.Prelude.{◌≡◌, ℕ, ◌+◌, ◌/◌, ◌<◌, ◌≤◌, List, length};
-ghost use Rattle.ff_model.specs.Coefficients.{mod_ops, residues};
-ghost use Rattle.ff_model.specs.Polynomials.{poly_product, poly_power};
-ghost use Rattle.ff_model.specs.Factors.{IsDivision};
+ghost use Rattle.alg_model.specs.Coefficients.{mod_ops, residues};
+ghost use Rattle.alg_model.specs.Polynomials.{poly_product, poly_power};
+ghost use Rattle.alg_model.specs.Factors.{IsDivision};
 
 use crate::{MAX_POLY, Poly};
 

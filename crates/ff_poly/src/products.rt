@@ -1,7 +1,7 @@
 //! Products of polynomials.
 ghost use Rattle.std.specs.Prelude.{◌≡◌, ℕ, ◌+◌, ◌%◌, ◌≤◌, length, slice_index};
-ghost use Rattle.ff_model.specs.Coefficients.{mod_ops};
-ghost use Rattle.ff_model.specs.Polynomials.{product, poly_product};
+ghost use Rattle.alg_model.specs.Coefficients.{mod_ops};
+ghost use Rattle.alg_model.specs.Polynomials.{product, poly_product};
 
 use crate::places::{add_multiple, blank_places, poly_of_places};
 use crate::{MAX_POLY, Poly};

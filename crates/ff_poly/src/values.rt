@@ -1,7 +1,7 @@
 //! Sums, differences, derivatives and values of polynomials.
 ghost use Rattle.std.specs.Prelude.{◌≡◌, ℕ, ◌+◌, ◌*◌, ◌<◌, ◌≤◌, length, slice_index};
-ghost use Rattle.ff_model.specs.Coefficients.{mod_ops};
-ghost use Rattle.ff_model.specs.Polynomials.{poly_sum, poly_difference, derivative, value_at};
+ghost use Rattle.alg_model.specs.Coefficients.{mod_ops};
+ghost use Rattle.alg_model.specs.Polynomials.{poly_sum, poly_difference, derivative, value_at};
 
 use crate::places::{add_multiple, blank_places, places_of, poly_of_places};
 use crate::{MAX_POLY, Poly, Prime};

@@ -8,9 +8,9 @@ use Rattle.std.proofs.lemmas.List.Elements.{All-head, All-tail}
 use Rattle.std.proofs.Math.Nat.{pow-zero, pow-suc, pow-le-pow_right}
 use Rattle.std.proofs.lemmas.Cmp.{ranked}
 use Rattle.std.specs.Ordering.{nat_cmp, ordering_then, MatchOrdering}
-use Rattle.ff_model.specs.Coefficients.{mod_ops, residues}
-use Rattle.ff_model.specs.Polynomials.{trim, cons_trimmed}
-use Rattle.ff_model.specs.Factors.{order_by, IsPolynomial}
+use Rattle.alg_model.specs.Coefficients.{mod_ops, residues}
+use Rattle.alg_model.specs.Polynomials.{trim, cons_trimmed}
+use Rattle.alg_model.specs.Factors.{order_by, IsPolynomial}
 use Rattle.ff_trial.specs.Numbering.{number_of}
 
 number_of-cons : (p x : ℕ) (ys : List ℕ) → number_of p (cons_trimmed (mod_ops p) x ys) ≡ x + p * number_of p ys

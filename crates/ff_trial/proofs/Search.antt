@@ -4,9 +4,9 @@ use Rattle.std.specs.declared.cmp.Ordering.{Ordering}
 use Rattle.std.specs.declared.cmp.Ordering.TheVariants.{Less, Equal, Greater}
 use Rattle.std.specs.Ordering.{nat_cmp, MatchOrdering}
 use Rattle.std.proofs.lemmas.Bool.{cases_eq}
-use Rattle.ff_model.specs.Coefficients.{residues}
-use Rattle.ff_model.specs.Values.{degree}
-use Rattle.ff_model.specs.Factors.{order_by, IsPolynomial, IsMonic, Divides, IsProperFactor, IsIrreducible, IsLeastFactor}
+use Rattle.alg_model.specs.Coefficients.{residues}
+use Rattle.alg_model.specs.Values.{degree}
+use Rattle.alg_model.specs.Factors.{order_by, IsPolynomial, IsMonic, Divides, IsProperFactor, IsIrreducible, IsLeastFactor}
 use Rattle.ff_trial.specs.Numbering.{number_of}
 use Rattle.ff_trial.proofs.Numbers.{number_of-order, number_of-lt, number_of-ge, below_power}
 use Rattle.std.proofs.Math.Nat.{pow-zero, pow-suc}

@@ -3,9 +3,9 @@
 
 ghost use Rattle.std.specs.Prelude.{◌≡◌, ℕ, ◌+◌, ◌*◌, ◌-◌, ◌^◌, ◌<◌, ◌≤◌, ◌≢◌, ◌↔◌, [], length, All, IsTrue, IfSome, IfNone};
 ghost use Rattle.std.specs.Ordering.{nat_cmp};
-ghost use Rattle.ff_model.specs.Coefficients.{residues};
-ghost use Rattle.ff_model.specs.Factors.{IsPolynomial, IsMonic, Divides, IsIrreducible, IsLeastFactor};
-ghost use Rattle.ff_model.specs.Values.{degree};
+ghost use Rattle.alg_model.specs.Coefficients.{residues};
+ghost use Rattle.alg_model.specs.Factors.{IsPolynomial, IsMonic, Divides, IsIrreducible, IsLeastFactor};
+ghost use Rattle.alg_model.specs.Values.{degree};
 ghost use Rattle.ff_trial.specs.Numbering.{number_of};
 
 use arrayvec::ArrayVec;

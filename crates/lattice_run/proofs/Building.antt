@@ -1,13 +1,13 @@
 -- What a field can be declared by.
 use Rattle.std.proofs.Common.{◌≡◌, ℕ, List, arith, ◌∙◌, ap₂, subst, refl, ◌<◌}
 use Rattle.std.specs.Prelude.{All, slice_index}
-use Rattle.ff_model.specs.Coefficients.{mod_ops, IsCharacteristic}
-use Rattle.ff_model.specs.Polynomials.{trim, leading}
-use Rattle.ff_model.specs.Factors.{IsMonic}
-use Rattle.ff_model.specs.Coefficients.{residues}
-use Rattle.ff_model.specs.Values.{degree}
-use Rattle.ff_rings.proofs.Trims.{leading_at, trimmed_from_leading}
-use Rattle.ff_rings.proofs.Residues.{zero_test}
+use Rattle.alg_model.specs.Coefficients.{mod_ops, IsCharacteristic}
+use Rattle.alg_model.specs.Polynomials.{trim, leading}
+use Rattle.alg_model.specs.Factors.{IsMonic}
+use Rattle.alg_model.specs.Coefficients.{residues}
+use Rattle.alg_model.specs.Values.{degree}
+use Rattle.alg_rings.proofs.Trims.{leading_at, trimmed_from_leading}
+use Rattle.alg_rings.proofs.Residues.{zero_test}
 use Rattle.ff_poly.specs.Polynomial.{Polynomial}
 use Rattle.lattice_run.specs.Lattice.{IsDegreeInRange, IsFirstTooLarge, IsWellFormed, IsMalformed}
 use Rattle.lattice_run.specs.Lattice.IsMalformed.{coefficient_too_large}

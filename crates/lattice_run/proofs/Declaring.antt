@@ -4,8 +4,8 @@ use Rattle.std.specs.Prelude.{bytes_eq}
 use Rattle.std.specs.Ordering.{nat_cmp}
 use Rattle.std.proofs.lemmas.List.Quantifiers.{position-Some}
 use Rattle.std.proofs.lemmas.Option.{slice_get_read}
-use Rattle.ff_model.specs.Coefficients.{residues}
-use Rattle.ff_model.specs.Factors.{IsLeastFactor}
+use Rattle.alg_model.specs.Coefficients.{residues}
+use Rattle.alg_model.specs.Factors.{IsLeastFactor}
 use Rattle.ff_poly.specs.Polynomial.{Polynomial}
 use Rattle.lat_script.specs.declared.replies.Reply.{Reply}
 use Rattle.lat_script.specs.declared.replies.Reply.TheVariants.{Refused}

@@ -9,13 +9,13 @@ use Rattle.std.proofs.lemmas.List.Elements.{All-cons, All-nil, Contains-append_c
 use Rattle.std.proofs.lemmas.List.Quantifiers.{position-Some}
 use Rattle.std.proofs.lemmas.Option.{slice_get-get_or}
 use Rattle.std.proofs.lemmas.Slice.Eq.{bytes_eq-Decides}
-use Rattle.ff_model.specs.Coefficients.{primes, residues, IsCharacteristic}
-use Rattle.ff_model.specs.Factors.{IsPolynomial, IsIrreducible, IsLeastFactor}
-use Rattle.ff_model.specs.Values.{degree}
-use Rattle.ff_rings.proofs.ResidueFields.{residues_field, residues_propositional}
-use Rattle.ff_divisors.proofs.Existence.{least_factor_exists, proper_factor_or_none}
-use Rattle.ff_divisors.proofs.Finite.{residues_finite}
-use Rattle.ff_divisors.proofs.Least.{contains_one}
+use Rattle.alg_model.specs.Coefficients.{primes, residues, IsCharacteristic}
+use Rattle.alg_model.specs.Factors.{IsPolynomial, IsIrreducible, IsLeastFactor}
+use Rattle.alg_model.specs.Values.{degree}
+use Rattle.alg_rings.proofs.ResidueFields.{residues_field, residues_propositional}
+use Rattle.alg_divisors.proofs.Existence.{least_factor_exists, proper_factor_or_none}
+use Rattle.alg_divisors.proofs.Finite.{residues_finite}
+use Rattle.alg_divisors.proofs.Least.{contains_one}
 use Rattle.ff_poly.specs.declared.TheConstants.{MAX_DEGREE}
 use Rattle.lat_script.specs.declared.commands.Command.{Command}
 use Rattle.lat_script.specs.declared.commands.Command.TheVariants.{Field}

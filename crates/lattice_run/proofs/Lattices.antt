@@ -12,9 +12,9 @@ use Rattle.std.proofs.lemmas.List.Elements.{All-map, All-append, All-cons, All-n
 use Rattle.std.proofs.lemmas.List.Quantifiers.{all_pairs_push}
 use Rattle.std.proofs.lemmas.List.Sums.{fails_before_first}
 use Rattle.std.proofs.lemmas.Slice.Eq.{bytes_eq-Decides}
-use Rattle.ff_model.specs.Coefficients.{residues, primes, IsCharacteristic}
-use Rattle.ff_model.specs.Factors.{IsIrreducible}
-use Rattle.ff_model.specs.Values.{degree}
+use Rattle.alg_model.specs.Coefficients.{residues, primes, IsCharacteristic}
+use Rattle.alg_model.specs.Factors.{IsIrreducible}
+use Rattle.alg_model.specs.Values.{degree}
 use Rattle.ff_poly.specs.Polynomial.{Polynomial}
 use Rattle.lat_script.specs.declared.replies.Reply.{Reply}
 use Rattle.ff_poly.proofs.Characteristics.{characteristic_small}

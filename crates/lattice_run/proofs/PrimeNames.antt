@@ -5,7 +5,7 @@ use Rattle.std.proofs.lemmas.List.Elements.{All-cons, All-nil}
 use Rattle.std.proofs.lemmas.Int.Digits.{all_below_base_digits_of}
 use Rattle.std.proofs.lemmas.Fmt.{decimal-digits_of, length-decimal-le}
 use Rattle.std.specs.Int.Digits.{AllBelowBase, digits_of}
-use Rattle.ff_model.specs.Coefficients.{IsCharacteristic}
+use Rattle.alg_model.specs.Coefficients.{IsCharacteristic}
 use Rattle.ff_poly.proofs.Characteristics.{characteristic_small}
 use Rattle.lat_script.specs.Names.{IsDeclaredName, IsNameByte}
 

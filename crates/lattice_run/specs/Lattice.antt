@@ -14,9 +14,9 @@ use Rattle.std.specs.Prelude.{◌≡◌, ◌≢◌, ℕ, ◌+◌, ◌-◌, ◌�
 use Rattle.std.specs.List.{AllPairs}
 use Rattle.std.specs.Prelude.{bytes_eq}
 use Rattle.std.specs.Ordering.{nat_cmp}
-use Rattle.ff_model.specs.Coefficients.{primes, residues, IsCharacteristic}
-use Rattle.ff_model.specs.Factors.{IsMonic, IsIrreducible, IsLeastFactor}
-use Rattle.ff_model.specs.Values.{degree}
+use Rattle.alg_model.specs.Coefficients.{primes, residues, IsCharacteristic}
+use Rattle.alg_model.specs.Factors.{IsMonic, IsIrreducible, IsLeastFactor}
+use Rattle.alg_model.specs.Values.{degree}
 use Rattle.ff_poly.specs.declared.TheConstants.{MAX_DEGREE}
 use Rattle.lat_script.specs.declared.replies.Reply.{Reply}
 use Rattle.lat_script.specs.declared.replies.Reply.TheVariants.{Declared, Refused}

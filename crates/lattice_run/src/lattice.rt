@@ -2,8 +2,8 @@
 
 ghost use Rattle.std.specs.Prelude.{◌≡◌, ◌≢◌, ℕ, List, ◌+◌, ◌*◌, ◌-◌, ◌^◌, ◌<◌, ◌≤◌, ◌↔◌, length, IsTrue, IfOk, OnErr, IfSome, IfNone, IfErr, All, slice_get, codes, decimal, ◌++◌};
 ghost use Rattle.std.specs.Ordering.{nat_cmp};
-ghost use Rattle.ff_model.specs.Coefficients.{IsCharacteristic, residues};
-ghost use Rattle.ff_model.specs.Factors.{IsIrreducible, IsLeastFactor};
+ghost use Rattle.alg_model.specs.Coefficients.{IsCharacteristic, residues};
+ghost use Rattle.alg_model.specs.Factors.{IsIrreducible, IsLeastFactor};
 ghost use Rattle.lat_script.specs.declared.replies.Reply.{Reply};
 ghost use Rattle.lattice_run.specs.Lattice.{opening, field_named, prime_field, map_count, FieldRow, IsLattice, IsFirstTooLarge, IsWellFormed, IsMalformed, AnswersTakenName, Declares};
 

@@ -1,10 +1,10 @@
 -- The divisor divides exactly if the remainder is zero.
 use Rattle.std.proofs.Common.{◌≡◌, [], ◌∙◌, sym, subst}
 use Rattle.std.specs.Prelude.{◌↔◌, IsTrue}
-use Rattle.ff_model.specs.Coefficients.{residues}
-use Rattle.ff_model.specs.Factors.{Divides, IsPolynomial}
-use Rattle.ff_rings.proofs.ResidueFields.{residues_propositional, residues_field}
-use Rattle.ff_rings.proofs.Divisors.{divides_iff_no_remainder}
+use Rattle.alg_model.specs.Coefficients.{residues}
+use Rattle.alg_model.specs.Factors.{Divides, IsPolynomial}
+use Rattle.alg_rings.proofs.ResidueFields.{residues_propositional, residues_field}
+use Rattle.alg_rings.proofs.Divisors.{divides_iff_no_remainder}
 use Rattle.ff_trial.proofs.Tells.{is_empty_tells}
 use Rattle.ff_trial.proofs.divides.Goals as goal
 

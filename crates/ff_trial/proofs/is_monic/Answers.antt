@@ -1,8 +1,8 @@
 -- The last coefficient is the leading one.
 use Rattle.std.proofs.Common.{◌≡◌, ◌∙◌, sym, ap, length, slice_index_or, ◌-◌, nat_eq}
-use Rattle.ff_model.specs.Coefficients.{mod_ops}
-use Rattle.ff_model.specs.Polynomials.{leading}
-use Rattle.ff_rings.proofs.Trims.{leading_at}
+use Rattle.alg_model.specs.Coefficients.{mod_ops}
+use Rattle.alg_model.specs.Polynomials.{leading}
+use Rattle.alg_rings.proofs.Trims.{leading_at}
 use Rattle.std.specs.Prelude.{IsTrue, ◌↔◌}
 use Rattle.ff_trial.proofs.Tells.{nat_eq_tells}
 use Rattle.ff_trial.proofs.is_monic.Goals as goal

@@ -1,9 +1,9 @@
 -- Every number from p on is tried, and the first that is one of a factor ends the search.
 use Rattle.std.proofs.Common.{◌≡◌, ◌∙◌, sym, ap, ap₂, subst, arith, ℕ, ◌^◌, ◌-◌, length}
 use Rattle.std.specs.Prelude.{IsTrue}
-use Rattle.ff_model.specs.Coefficients.{residues}
-use Rattle.ff_model.specs.Values.{degree}
-use Rattle.ff_model.specs.Factors.{IsMonic, Divides}
+use Rattle.alg_model.specs.Coefficients.{residues}
+use Rattle.alg_model.specs.Values.{degree}
+use Rattle.alg_model.specs.Factors.{IsMonic, Divides}
 use Rattle.ff_trial.specs.Numbering.{number_of}
 use Rattle.ff_trial.proofs.Search.{FactorFree, free_at_start, free_step, least_of_free, irreducible_at_end, factor_from_number}
 use Rattle.ff_trial.proofs.least_factor.Goals as goal

@@ -1,6 +1,6 @@
 use Rattle.std.proofs.Common.{◌≡◌, ℕ, ◌<◌, ◌==◌, if◌then◌else◌}
-use Rattle.ff_model.specs.Coefficients.{mod_ops}
-use Rattle.ff_model.specs.Matrices.{entry}
+use Rattle.alg_model.specs.Coefficients.{mod_ops}
+use Rattle.alg_model.specs.Matrices.{entry}
 use Rattle.ff_factor.proofs.certificates.has_unit_columns.Given as goal
 
 abbrev pub invariant-loop-k : goal.invariant-loop-k

@@ -1,8 +1,8 @@
 use Rattle.std.proofs.Common.{length, ap, sym, ◌∙◌}
 use Rattle.std.proofs.lemmas.Bool.{eqb-true, eq-eqb}
-use Rattle.ff_model.specs.Coefficients.{mod_ops}
-use Rattle.ff_rings.proofs.ResidueFields.{residues_field}
-use Rattle.ff_linear.proofs.Columns.{length_identity}
+use Rattle.alg_model.specs.Coefficients.{mod_ops}
+use Rattle.alg_rings.proofs.ResidueFields.{residues_field}
+use Rattle.alg_linear.proofs.Columns.{length_identity}
 use Rattle.ff_factor.proofs.Identities.{identity_iff}
 use Rattle.ff_factor.proofs.certificates.is_identity.Goals as goal
 

@@ -1,7 +1,7 @@
 use Rattle.std.proofs.Common.{◌≡◌, ◌-◌, length, ap, ap₂, sym, ◌∙◌, arith}
-use Rattle.ff_model.specs.Coefficients.{mod_ops}
-use Rattle.ff_model.specs.Values.{degree}
-use Rattle.ff_model.specs.Matrices.{matrix_product, identity_matrix}
+use Rattle.alg_model.specs.Coefficients.{mod_ops}
+use Rattle.alg_model.specs.Values.{degree}
+use Rattle.alg_model.specs.Matrices.{matrix_product, identity_matrix}
 use Rattle.ff_factor.specs.Certificates.{berlekamp_matrix}
 use Rattle.ff_factor.proofs.certificates.is_left_inverse.Goals as goal
 

@@ -1,6 +1,6 @@
 use Rattle.std.proofs.Common.{◌<◌, length, arith, sym, subst}
-use Rattle.ff_model.specs.Coefficients.{mod_ops}
-use Rattle.ff_fields.proofs.Derivatives.{length_derivative}
+use Rattle.alg_model.specs.Coefficients.{mod_ops}
+use Rattle.alg_fields.proofs.Derivatives.{length_derivative}
 use Rattle.ff_factor.proofs.certificates.is_separable.Goals as goal
 
 pub mul-requires-2-clause-room : goal.mul-requires-2-clause-room

@@ -1,6 +1,6 @@
 use Rattle.std.proofs.Common.{◌≡◌, ℕ, ◌<◌, ◌==◌, if◌then◌else◌}
-use Rattle.ff_model.specs.Coefficients.{mod_ops}
-use Rattle.ff_model.specs.Matrices.{entry}
+use Rattle.alg_model.specs.Coefficients.{mod_ops}
+use Rattle.alg_model.specs.Matrices.{entry}
 use Rattle.ff_factor.proofs.certificates.is_unit_column.Given as goal
 
 abbrev pub invariant-loop-r : goal.invariant-loop-r

@@ -1,6 +1,6 @@
 use Rattle.std.proofs.Common.{◌≡◌, ◌-◌, length, map}
 use Rattle.std.specs.List.{range_with_len}
-use Rattle.ff_model.specs.Coefficients.{mod_ops}
+use Rattle.alg_model.specs.Coefficients.{mod_ops}
 use Rattle.ff_factor.specs.Certificates.{berlekamp_column}
 use Rattle.ff_factor.proofs.columns.columns_by_powers.Given as goal
 

@@ -3,8 +3,8 @@ use Rattle.std.specs.List.{range_with_len, refill}
 use Rattle.std.proofs.lemmas.List.{length-replicate}
 use Rattle.std.proofs.lemmas.List.Elements.{All-weaker, All-cons, All-replicate}
 use Rattle.std.proofs.lemmas.List.FromFn.{map-range_with_len_more}
-use Rattle.ff_model.specs.Coefficients.{mod_ops}
-use Rattle.ff_model.specs.Values.{degree}
+use Rattle.alg_model.specs.Coefficients.{mod_ops}
+use Rattle.alg_model.specs.Values.{degree}
 use Rattle.ff_factor.specs.Certificates.{berlekamp_column}
 use Rattle.ff_factor.specs.Splitting.{ArePlacesOfPower, residues_modulo}
 use Rattle.ff_factor.proofs.PowersOfVariable.{places_of_one, power_from_places}

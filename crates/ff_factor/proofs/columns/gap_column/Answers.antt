@@ -1,7 +1,7 @@
 use Rattle.std.proofs.Common.{◌≡◌, ◌-◌, ◌==◌, if◌then◌else◌, length, slice_index, ap, ◌∙◌, arith, subst}
-use Rattle.ff_model.specs.Coefficients.{mod_ops, residues}
-use Rattle.ff_model.specs.Values.{degree}
-use Rattle.ff_model.specs.Matrices.{IsColumn}
+use Rattle.alg_model.specs.Coefficients.{mod_ops, residues}
+use Rattle.alg_model.specs.Values.{degree}
+use Rattle.alg_model.specs.Matrices.{IsColumn}
 use Rattle.ff_factor.proofs.PowersOfVariable.{column_from_power}
 use Rattle.ff_factor.proofs.columns.gap_column.Goals as goal
 

@@ -1,5 +1,5 @@
 use Rattle.std.proofs.Common.{◌≡◌, ℕ, ◌<◌, ◌==◌, if◌then◌else◌, length, slice_index, All}
-use Rattle.ff_model.specs.Coefficients.{mod_ops}
+use Rattle.alg_model.specs.Coefficients.{mod_ops}
 use Rattle.ff_factor.proofs.columns.gap_numbers.Given as goal
 
 abbrev pub invariant-loop-i : goal.invariant-loop-i

@@ -1,6 +1,6 @@
 use Rattle.std.proofs.Common.{◌-◌, length, All, sym, ◌∙◌, subst}
-use Rattle.ff_model.specs.Coefficients.{residues}
-use Rattle.ff_model.specs.Matrices.{IsColumn}
+use Rattle.alg_model.specs.Coefficients.{residues}
+use Rattle.alg_model.specs.Matrices.{IsColumn}
 use Rattle.ff_factor.proofs.AtResidues.{matrix_valid}
 use Rattle.ff_factor.proofs.columns.matrix_in_turn.Goals as goal
 

@@ -1,4 +1,4 @@
-use Rattle.ff_rings.proofs.ResidueFields.{residues_field, residues_propositional}
+use Rattle.alg_rings.proofs.ResidueFields.{residues_field, residues_propositional}
 use Rattle.ff_factor.proofs.Factoring
 use Rattle.ff_factor.proofs.factorization.cofactor.Goals as goal
 

@@ -1,7 +1,7 @@
 use Rattle.std.proofs.Common.{◌≢◌, ℕ, ◌<◌, slice_index_or}
 use Rattle.std.specs.Ordering.{nat_cmp}
 use Rattle.std.specs.declared.cmp.Ordering.TheVariants.{Less}
-use Rattle.ff_model.specs.Factors.{order_by}
+use Rattle.alg_model.specs.Factors.{order_by}
 use Rattle.ff_poly.specs.Polynomial.{Polynomial}
 use Rattle.ff_factor.proofs.factorization.place_of.Given as goal
 

@@ -1,5 +1,5 @@
 use Rattle.std.proofs.Common.{◌≡◌, slice_index_or, ap, sym, ◌∙◌, subst}
-use Rattle.ff_rings.proofs.ResidueFields.{residues_field, residues_propositional}
+use Rattle.alg_rings.proofs.ResidueFields.{residues_field, residues_propositional}
 use Rattle.ff_factor.specs.Splitting.{IsNonzeroKernelColumn}
 use Rattle.ff_factor.proofs.Kernels.{kernel_member}
 use Rattle.ff_factor.proofs.splitting.kernel_column.Goals as goal

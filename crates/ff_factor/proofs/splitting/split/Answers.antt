@@ -1,10 +1,10 @@
 use Rattle.std.proofs.Common.{◌≡◌, ◌≢◌, ◌-◌, ◌<◌, [], ◌∷◌, length, arith, ap, ap₂, sym, ◌∙◌, subst}
 use Rattle.std.proofs.lemmas.List.FromFn.{length-map-range_with_len}
-use Rattle.ff_model.specs.Coefficients.{mod_ops, IsCharacteristic}
-use Rattle.ff_model.specs.Polynomials.{poly_sum, poly_product}
-use Rattle.ff_model.specs.Values.{degree}
-use Rattle.ff_model.specs.Matrices.{matrix_product, identity_matrix}
-use Rattle.ff_fields.proofs.Derivatives.{length_derivative}
+use Rattle.alg_model.specs.Coefficients.{mod_ops, IsCharacteristic}
+use Rattle.alg_model.specs.Polynomials.{poly_sum, poly_product}
+use Rattle.alg_model.specs.Values.{degree}
+use Rattle.alg_model.specs.Matrices.{matrix_product, identity_matrix}
+use Rattle.alg_fields.proofs.Derivatives.{length_derivative}
 use Rattle.ff_factor.specs.Certificates.{berlekamp_column}
 use Rattle.ff_factor.proofs.AtResidues.{derivative_common, gcd_is_one}
 use Rattle.ff_factor.proofs.splitting.split.Goals as goal

@@ -1,8 +1,8 @@
 use Rattle.std.proofs.Common.{◌≡◌, ◌<◌, ◌∷◌, length, ap₂, sym, ◌∙◌, subst}
-use Rattle.ff_model.specs.Coefficients.{mod_ops, residues}
-use Rattle.ff_model.specs.Polynomials.{trim}
-use Rattle.ff_model.specs.Factors.{IsPolynomial}
-use Rattle.ff_fields.specs.Fixed.{IsFixed}
+use Rattle.alg_model.specs.Coefficients.{mod_ops, residues}
+use Rattle.alg_model.specs.Polynomials.{trim}
+use Rattle.alg_model.specs.Factors.{IsPolynomial}
+use Rattle.alg_fields.specs.Fixed.{IsFixed}
 use Rattle.ff_factor.proofs.AtResidues.{kernel_gives_fixed}
 use Rattle.ff_factor.proofs.splitting.split_by_column.Goals as goal
 use Rattle.ff_factor.proofs.splitting.split_by_column.Goals.{After-without_constant-fixed}

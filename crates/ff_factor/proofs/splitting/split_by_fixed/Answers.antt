@@ -1,8 +1,8 @@
 use Rattle.std.proofs.Common.{◌≡◌, ◌<◌, ◌≤◌, length, below_more, arith, ap, ◌∙◌, subst}
-use Rattle.ff_model.specs.Coefficients.{residues}
-use Rattle.ff_model.specs.Factors.{IsPolynomial}
-use Rattle.ff_rings.proofs.ResidueFields.{residues_field, residues_propositional}
-use Rattle.ff_divisors.proofs.Polynomials.{gcd_unique}
+use Rattle.alg_model.specs.Coefficients.{residues}
+use Rattle.alg_model.specs.Factors.{IsPolynomial}
+use Rattle.alg_rings.proofs.ResidueFields.{residues_field, residues_propositional}
+use Rattle.alg_divisors.proofs.Polynomials.{gcd_unique}
 use Rattle.ff_factor.proofs.AtResidues.{common_is_proper, some_common}
 use Rattle.ff_factor.proofs.splitting.split_by_fixed.Goals as goal
 

@@ -1,7 +1,7 @@
 use Rattle.std.proofs.Common.{ℕ, ◌<◌, ◌≤◌, List, length}
-use Rattle.ff_model.specs.Coefficients.{mod_ops, residues}
-use Rattle.ff_model.specs.Factors.{IsGreatestCommonDivisor}
-use Rattle.ff_fields.specs.Fixed.{less_constant}
+use Rattle.alg_model.specs.Coefficients.{mod_ops, residues}
+use Rattle.alg_model.specs.Factors.{IsGreatestCommonDivisor}
+use Rattle.alg_fields.specs.Fixed.{less_constant}
 use Rattle.ff_factor.proofs.splitting.split_by_fixed.Given as goal
 
 -- none of the first constants gives a factor

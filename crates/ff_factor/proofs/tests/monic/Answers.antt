@@ -1,7 +1,7 @@
 use Rattle.std.proofs.Common.{◌-◌, length, slice_index, ap, sym, ◌∙◌, rules}
 use Rattle.std.proofs.lemmas.Bool.Decides.{nat_tests}
-use Rattle.ff_model.specs.Coefficients.{mod_ops}
-use Rattle.ff_rings.proofs.Trims.{leading_at}
+use Rattle.alg_model.specs.Coefficients.{mod_ops}
+use Rattle.alg_rings.proofs.Trims.{leading_at}
 use Rattle.ff_factor.proofs.tests.monic.Goals as goal
 
 pub returns-clause-monic : goal.returns-clause-monic

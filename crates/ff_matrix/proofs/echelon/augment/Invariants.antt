@@ -1,6 +1,6 @@
 use Rattle.std.proofs.Common.{◌≡◌, ℕ, ◌+◌, ◌<◌, ◌==◌, cond, [], length, get_or}
-use Rattle.ff_model.specs.Coefficients.{mod_ops, residues}
-use Rattle.ff_model.specs.Matrices.{entry, IsColumn}
+use Rattle.alg_model.specs.Coefficients.{mod_ops, residues}
+use Rattle.alg_model.specs.Matrices.{entry, IsColumn}
 use Rattle.ff_matrix.specs.declared.TheConstants.{MAX_WIDTH}
 use Rattle.ff_matrix.proofs.echelon.augment.Given as goal
 

@@ -1,6 +1,6 @@
 use Rattle.std.proofs.Common.{◌≡◌, ℕ, ◌<◌, ◌≤◌, length, get_or, All}
-use Rattle.ff_model.specs.Coefficients.{mod_ops}
-use Rattle.ff_model.specs.Matrices.{entry}
+use Rattle.alg_model.specs.Coefficients.{mod_ops}
+use Rattle.alg_model.specs.Matrices.{entry}
 use Rattle.ff_matrix.specs.declared.TheConstants.{MAX_WIDTH}
 use Rattle.ff_matrix.proofs.echelon.augmented_row.Given as goal
 

@@ -1,8 +1,8 @@
 use Rattle.std.proofs.Common.{◌+◌, [], ◌∷◌, ◌++◌, ap, ap₂, refl, length, map, get_or, sym, ◌∙◌, arith}
 use Rattle.std.proofs.lemmas.List.Elements.{All-push}
 use Rattle.std.proofs.lemmas.List.FromFn.{length-map-range_with_len, map-range_with_len_more}
-use Rattle.ff_model.specs.Coefficients.{residues}
-use Rattle.ff_model.specs.Matrices.{IsColumn}
+use Rattle.alg_model.specs.Coefficients.{residues}
+use Rattle.alg_model.specs.Matrices.{IsColumn}
 use Rattle.ff_matrix.proofs.echelon.block.Goals as goal
 
 pub push-requires : goal.push-requires

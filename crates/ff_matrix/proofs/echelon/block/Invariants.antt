@@ -1,7 +1,7 @@
 use Rattle.std.proofs.Common.{◌≡◌, map, get_or, length, All}
 use Rattle.std.specs.List.{range_with_len}
-use Rattle.ff_model.specs.Coefficients.{residues}
-use Rattle.ff_model.specs.Matrices.{IsColumn}
+use Rattle.alg_model.specs.Coefficients.{residues}
+use Rattle.alg_model.specs.Matrices.{IsColumn}
 use Rattle.ff_matrix.proofs.echelon.block.Given as goal
 
 abbrev pub invariant-loop-k : goal.invariant-loop-k

@@ -1,6 +1,6 @@
 use Rattle.std.proofs.Common.{◌≡◌, map, take, All}
-use Rattle.ff_model.specs.Coefficients.{mod_ops, residues}
-use Rattle.ff_model.specs.Matrices.{matrix_apply, IsColumn}
+use Rattle.alg_model.specs.Coefficients.{mod_ops, residues}
+use Rattle.alg_model.specs.Matrices.{matrix_apply, IsColumn}
 use Rattle.ff_matrix.proofs.matrices.apply_all.Given as goal
 
 abbrev pub invariant-loop-column : goal.invariant-loop-column

@@ -1,6 +1,6 @@
 use Rattle.std.proofs.Common.{◌≡◌, ◌<◌, ◌≤◌, length, drop, All}
-use Rattle.ff_model.specs.Coefficients.{mod_ops}
-use Rattle.ff_model.specs.Matrices.{combination}
+use Rattle.alg_model.specs.Coefficients.{mod_ops}
+use Rattle.alg_model.specs.Matrices.{combination}
 use Rattle.ff_matrix.proofs.matrices.combine.Given as goal
 
 abbrev pub invariant-loop-k : goal.invariant-loop-k

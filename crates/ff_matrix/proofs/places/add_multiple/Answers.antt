@@ -1,6 +1,6 @@
 use Rattle.std.proofs.Common.{refl, sym, ◌∙◌, arith}
-use Rattle.ff_model.specs.Coefficients.{mod_ops}
-use Rattle.ff_linear.proofs.Columns.{sum_scale_by_places}
+use Rattle.alg_model.specs.Coefficients.{mod_ops}
+use Rattle.alg_linear.proofs.Columns.{sum_scale_by_places}
 use Rattle.ff_matrix.proofs.Steps.{added_nothing, done_more}
 use Rattle.ff_matrix.proofs.places.add_multiple.Goals as goal
 

@@ -1,6 +1,6 @@
 use Rattle.std.proofs.Common.{arith}
-use Rattle.ff_model.specs.Coefficients.{mod_ops}
-use Rattle.ff_linear.proofs.Columns.{scale_by_places}
+use Rattle.alg_model.specs.Coefficients.{mod_ops}
+use Rattle.alg_linear.proofs.Columns.{scale_by_places}
 use Rattle.ff_matrix.proofs.places.scale_places.Goals as goal
 
 pub returns-clause-scaled : goal.returns-clause-scaled

@@ -1,5 +1,5 @@
 use Rattle.std.proofs.Common.{get_or}
-use Rattle.ff_model.specs.Coefficients.{mod_ops}
+use Rattle.alg_model.specs.Coefficients.{mod_ops}
 use Rattle.ff_matrix.proofs.Steps.{AreDone}
 use Rattle.ff_matrix.proofs.places.scale_places.Given as goal
 

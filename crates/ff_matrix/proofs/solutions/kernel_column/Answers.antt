@@ -1,8 +1,8 @@
 use Rattle.std.proofs.Common.{◌≡◌, ℕ, List, [], length, map, set, ap, sym, ◌∙◌, subst, arith, length-set}
 use Rattle.std.proofs.lemmas.List.{get_or_read}
 use Rattle.arrayvec.proofs.ArrayVecLemmas.{items-with_items}
-use Rattle.ff_model.specs.Coefficients.{mod_ops}
-use Rattle.ff_model.specs.Matrices.{column_at}
+use Rattle.alg_model.specs.Coefficients.{mod_ops}
+use Rattle.alg_model.specs.Matrices.{column_at}
 use Rattle.ff_matrix.specs.Rows.{IsKernelColumn}
 use Rattle.ff_matrix.proofs.Spreads.{kernel_column_read}
 use Rattle.ff_matrix.proofs.solutions.kernel_column.Goals as goal

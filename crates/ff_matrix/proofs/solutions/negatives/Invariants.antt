@@ -1,5 +1,5 @@
 use Rattle.std.proofs.Common.{◌≡◌, ◌<◌, map, take, All}
-use Rattle.ff_model.specs.Coefficients.{mod_ops}
+use Rattle.alg_model.specs.Coefficients.{mod_ops}
 use Rattle.ff_matrix.proofs.solutions.negatives.Given as goal
 
 abbrev pub invariant-loop-x : goal.invariant-loop-x

@@ -1,6 +1,6 @@
 use Rattle.std.proofs.Common.{◌≡◌, map, take, All}
-use Rattle.ff_model.specs.Coefficients.{residues}
-use Rattle.ff_model.specs.Matrices.{IsColumn}
+use Rattle.alg_model.specs.Coefficients.{residues}
+use Rattle.alg_model.specs.Matrices.{IsColumn}
 use Rattle.ff_matrix.proofs.solutions.top_rows.Given as goal
 
 abbrev pub invariant-loop-column : goal.invariant-loop-column

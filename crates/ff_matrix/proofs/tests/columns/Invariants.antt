@@ -1,6 +1,6 @@
 use Rattle.std.proofs.Common.{◌≡◌, length, All}
-use Rattle.ff_model.specs.Coefficients.{residues}
-use Rattle.ff_model.specs.Matrices.{IsColumn}
+use Rattle.alg_model.specs.Coefficients.{residues}
+use Rattle.alg_model.specs.Matrices.{IsColumn}
 use Rattle.ff_matrix.proofs.tests.columns.Given as goal
 
 abbrev pub invariant-loop-k : goal.invariant-loop-k

@@ -1,8 +1,8 @@
 use Rattle.std.proofs.Common.{◌≡◌, ℕ, ◌+◌, ◌-◌, ◌*◌, ◌%◌, ◌<◌, length, slice_index, ap, sym, ◌∙◌, subst, arith}
 use Rattle.std.proofs.lemmas.List.Elements.{All-from_get_or}
 use native.Mathlib.Nat.{mod-add-mod, zero-add}
-use Rattle.ff_model.specs.Polynomials.{convolution}
-use Rattle.ff_rings.proofs.Residues.{nat_ops, product_mod}
+use Rattle.alg_model.specs.Polynomials.{convolution}
+use Rattle.alg_rings.proofs.Residues.{nat_ops, product_mod}
 use Rattle.ff_poly.proofs.Quotients.{Divided, start_division, top_factor, division_round}
 use Rattle.ff_poly.proofs.division.divide.Goals as goal
 

@@ -1,7 +1,7 @@
 use Rattle.std.proofs.Common.{slice_index, ap, ◌∙◌}
-use Rattle.ff_model.specs.Coefficients.{mod_ops}
-use Rattle.ff_rings.proofs.Residues.{zero_test}
-use Rattle.ff_rings.proofs.Trims.{trim_at, trim_same}
+use Rattle.alg_model.specs.Coefficients.{mod_ops}
+use Rattle.alg_rings.proofs.Residues.{zero_test}
+use Rattle.alg_rings.proofs.Trims.{trim_at, trim_same}
 use Rattle.ff_poly.proofs.places.poly_of_places.Goals as goal
 
 pub returns-clause-residues : goal.returns-clause-residues

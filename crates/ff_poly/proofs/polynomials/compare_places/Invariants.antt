@@ -1,6 +1,6 @@
 use Rattle.std.proofs.Common.{◌≡◌, ◌≤◌, length, drop, Equal}
 use Rattle.std.specs.Ordering.{nat_cmp}
-use Rattle.ff_model.specs.Factors.{order_by}
+use Rattle.alg_model.specs.Factors.{order_by}
 use Rattle.ff_poly.proofs.polynomials.compare_places.Given as goal
 
 abbrev pub invariant-loop-n : goal.invariant-loop-n

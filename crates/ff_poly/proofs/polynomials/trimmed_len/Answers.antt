@@ -1,7 +1,7 @@
 use Rattle.std.proofs.Common.{sym, arith}
-use Rattle.ff_model.specs.Coefficients.{mod_ops}
-use Rattle.ff_rings.proofs.Residues.{zero_test}
-use Rattle.ff_rings.proofs.Trims.{trim_zeros}
+use Rattle.alg_model.specs.Coefficients.{mod_ops}
+use Rattle.alg_rings.proofs.Residues.{zero_test}
+use Rattle.alg_rings.proofs.Trims.{trim_zeros}
 use Rattle.ff_poly.proofs.ListPlaces.{trim_is_take}
 use Rattle.ff_poly.proofs.polynomials.trimmed_len.Goals as goal
 

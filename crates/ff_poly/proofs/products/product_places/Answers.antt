@@ -1,8 +1,8 @@
 use Rattle.std.proofs.Common.{◌≡◌, [], ◌+◌, ◌*◌, ◌%◌, ◌≤◌, take, slice_index, refl, ap, sym, ◌∙◌, arith}
 use Rattle.std.proofs.lemmas.List.{take_all}
 use Rattle.std.proofs.lemmas.Nat.{mul-le}
-use Rattle.ff_model.specs.Polynomials.{convolution}
-use Rattle.ff_rings.proofs.Residues.{nat_ops, product_mod}
+use Rattle.alg_model.specs.Polynomials.{convolution}
+use Rattle.alg_rings.proofs.Residues.{nat_ops, product_mod}
 use Rattle.ff_poly.proofs.ListPlaces.{place_cases}
 use Rattle.ff_poly.proofs.Convolutions.{convolution_nil, convolution_below, convolution_from}
 use Rattle.ff_poly.proofs.products.product_places.Goals as goal

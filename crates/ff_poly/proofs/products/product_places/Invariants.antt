@@ -1,6 +1,6 @@
 use Rattle.std.proofs.Common.{◌≡◌, ℕ, ◌*◌, ◌≤◌, length, take, slice_index}
-use Rattle.ff_model.specs.Polynomials.{convolution}
-use Rattle.ff_rings.proofs.Residues.{nat_ops}
+use Rattle.alg_model.specs.Polynomials.{convolution}
+use Rattle.alg_rings.proofs.Residues.{nat_ops}
 use Rattle.ff_poly.specs.declared.TheConstants.{MAX_POLY}
 use Rattle.ff_poly.proofs.products.product_places.Given as goal
 

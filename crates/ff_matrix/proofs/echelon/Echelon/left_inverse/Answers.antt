@@ -1,8 +1,8 @@
 use Rattle.std.proofs.Common.{◌≡◌, ℕ, length, map, take, refl, ap, ◌∙◌, subst, arith}
 use Rattle.std.proofs.lemmas.Bool.{true≢false}
 use Rattle.std.proofs.lemmas.List.{length-map}
-use Rattle.ff_model.specs.Coefficients.{mod_ops, residues}
-use Rattle.ff_model.specs.Matrices.{matrix_product, identity_matrix, IsMatrix}
+use Rattle.alg_model.specs.Coefficients.{mod_ops, residues}
+use Rattle.alg_model.specs.Matrices.{matrix_product, identity_matrix, IsMatrix}
 use Rattle.ff_matrix.specs.Echelons.{IsEchelonOf}
 use Rattle.ff_matrix.specs.ModularMatrix.{ModularMatrix}
 use Rattle.ff_matrix.proofs.Readings.{same_width, left_inverse_read, independent_read, dependent_read}

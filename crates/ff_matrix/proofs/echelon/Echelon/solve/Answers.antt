@@ -1,7 +1,7 @@
 use Rattle.std.proofs.Common.{◌≡◌, ◌<◌, ℕ, List, length, All, refl, ap, sym, ◌∙◌, subst, arith}
 use Rattle.std.proofs.lemmas.Bool.{true≢false}
-use Rattle.ff_model.specs.Coefficients.{mod_ops, residues}
-use Rattle.ff_model.specs.Matrices.{matrix_apply, IsColumn}
+use Rattle.alg_model.specs.Coefficients.{mod_ops, residues}
+use Rattle.alg_model.specs.Matrices.{matrix_apply, IsColumn}
 use Rattle.ff_matrix.specs.Echelons.{IsEchelonOf}
 use Rattle.ff_matrix.specs.ModularMatrix.{ModularMatrix}
 use Rattle.ff_matrix.proofs.Readings.{above_one, same_width, column_of_each, solution_read, no_solution_read}

@@ -1,6 +1,6 @@
 use Rattle.std.proofs.Common.{◌≡◌, ◌≢◌, ◌-◌, ◌*◌, ◌/◌, ◌%◌, ◌<◌, sym, ap, subst, ◌∙◌, arith}
 use Rattle.std.proofs.lemmas.Nat.{mod_below}
-use Rattle.ff_model.specs.Coefficients.{IsCharacteristic}
+use Rattle.alg_model.specs.Coefficients.{IsCharacteristic}
 use Rattle.ff_poly.proofs.Characteristics.{characteristic_prime, inversion_step}
 use Rattle.ff_poly.proofs.arithmetic.Prime.inv.Goals as goal
 

@@ -1,8 +1,8 @@
 use Rattle.std.proofs.Common.{◌+◌, ◌/◌, sym, ◌∙◌, subst, arith}
-use Rattle.ff_model.specs.Coefficients.{mod_ops, residues}
-use Rattle.ff_model.specs.Polynomials.{poly_product}
-use Rattle.ff_model.specs.Factors.{IsPolynomial}
-use Rattle.ff_rings.proofs.ResidueFields.{residues_propositional, residues_field}
+use Rattle.alg_model.specs.Coefficients.{mod_ops, residues}
+use Rattle.alg_model.specs.Polynomials.{poly_product}
+use Rattle.alg_model.specs.Factors.{IsPolynomial}
+use Rattle.alg_rings.proofs.ResidueFields.{residues_propositional, residues_field}
 use Rattle.ff_poly.proofs.PowersModulo.{Leaves, square_leaves, next_leaves}
 use Rattle.ff_poly.proofs.polynomials.Poly.+power_of_reduced.Goals as goal
 

@@ -1,11 +1,11 @@
 use Rattle.std.proofs.Common.{◌≡◌, ℕ, ◌+◌, ◌%◌, ◌<◌, slice_index, ap, ap₂, sym, ◌∙◌, subst, arith}
 use native.Mathlib.Nat.{zero-add, one-mul}
-use Rattle.ff_model.specs.Coefficients.{mod_ops, residues, IsCharacteristic}
-use Rattle.ff_model.specs.Polynomials.{sum, poly_sum}
-use Rattle.ff_model.specs.Factors.{IsPolynomial}
-use Rattle.ff_rings.proofs.Residues.{residues_ring}
-use Rattle.ff_rings.proofs.ResidueFields.{residues_propositional}
-use Rattle.ff_rings.proofs.Carriers.{sum_at}
+use Rattle.alg_model.specs.Coefficients.{mod_ops, residues, IsCharacteristic}
+use Rattle.alg_model.specs.Polynomials.{sum, poly_sum}
+use Rattle.alg_model.specs.Factors.{IsPolynomial}
+use Rattle.alg_rings.proofs.Residues.{residues_ring}
+use Rattle.alg_rings.proofs.ResidueFields.{residues_propositional}
+use Rattle.alg_rings.proofs.Carriers.{sum_at}
 use Rattle.ff_poly.proofs.ListPlaces.{cut_at, residue_sum_past}
 use Rattle.ff_poly.proofs.Characteristics.{characteristic_small}
 use Rattle.ff_poly.proofs.polynomials.Poly.add.Goals as goal

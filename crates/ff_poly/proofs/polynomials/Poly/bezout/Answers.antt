@@ -1,9 +1,9 @@
 use Rattle.std.proofs.Common.{◌≡◌, ◌≢◌, ◌<◌, [], length, ap, sym, ◌∙◌, subst, arith}
 use Rattle.std.proofs.lemmas.Bool.{false≢true}
-use Rattle.ff_model.specs.Coefficients.{residues}
-use Rattle.ff_model.specs.Factors.{IsPolynomial, IsGreatestCommonDivisor}
-use Rattle.ff_rings.proofs.Lists.{length_not_nil, not_nil_from_length}
-use Rattle.ff_rings.proofs.ResidueFields.{residues_propositional, residues_field}
+use Rattle.alg_model.specs.Coefficients.{residues}
+use Rattle.alg_model.specs.Factors.{IsPolynomial, IsGreatestCommonDivisor}
+use Rattle.alg_rings.proofs.Lists.{length_not_nil, not_nil_from_length}
+use Rattle.alg_rings.proofs.ResidueFields.{residues_propositional, residues_field}
 use Rattle.ff_poly.specs.Polynomial.{Polynomial}
 use Rattle.ff_poly.proofs.Euclid.{gcd_step}
 use Rattle.ff_poly.proofs.Remainders.{HasPrime, IsNext, IsMonicMultiple, first_line, second_line, start_short, next_line, next_short, monic_gcd, monic_identity, monic_first, monic_second, monic_g}

@@ -1,6 +1,6 @@
 use Rattle.std.proofs.Common.{ℕ, ◌+◌, ◌<◌, List, length}
-use Rattle.ff_model.specs.Coefficients.{residues}
-use Rattle.ff_model.specs.Factors.{IsGreatestCommonDivisor}
+use Rattle.alg_model.specs.Coefficients.{residues}
+use Rattle.alg_model.specs.Factors.{IsGreatestCommonDivisor}
 use Rattle.ff_poly.proofs.Remainders.{Line, AreShort}
 use Rattle.ff_poly.proofs.polynomials.Poly.bezout.Given as goal
 

@@ -1,10 +1,10 @@
 use Rattle.std.proofs.Common.{◌≡◌, ◌≢◌, ◌-◌, ◌%◌, ◌<◌, length, slice_index, ap, sym, ◌∙◌, subst}
-use Rattle.ff_model.specs.Coefficients.{mod_ops, residues, IsCharacteristic}
-use Rattle.ff_model.specs.Factors.{IsPolynomial, IsDivision}
-use Rattle.ff_rings.proofs.Lists.{length_not_nil}
-use Rattle.ff_rings.proofs.Trims.{last_not_zero}
-use Rattle.ff_rings.proofs.Residues.{zero_test}
-use Rattle.ff_rings.proofs.ResidueFields.{residues_propositional, residues_field}
+use Rattle.alg_model.specs.Coefficients.{mod_ops, residues, IsCharacteristic}
+use Rattle.alg_model.specs.Factors.{IsPolynomial, IsDivision}
+use Rattle.alg_rings.proofs.Lists.{length_not_nil}
+use Rattle.alg_rings.proofs.Trims.{last_not_zero}
+use Rattle.alg_rings.proofs.Residues.{zero_test}
+use Rattle.alg_rings.proofs.ResidueFields.{residues_propositional, residues_field}
 use Rattle.ff_poly.proofs.Euclid.{division_sizes}
 use Rattle.ff_poly.proofs.Characteristics.{characteristic_small}
 use Rattle.ff_poly.proofs.Quotients.{division_of_places}

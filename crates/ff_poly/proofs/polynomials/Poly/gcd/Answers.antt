@@ -1,7 +1,7 @@
 use Rattle.std.proofs.Common.{◌≡◌, [], sym, ◌∙◌, subst}
-use Rattle.ff_model.specs.Coefficients.{residues}
-use Rattle.ff_model.specs.Factors.{IsDivision, IsGreatestCommonDivisor}
-use Rattle.ff_rings.proofs.ResidueFields.{residues_propositional, residues_field}
+use Rattle.alg_model.specs.Coefficients.{residues}
+use Rattle.alg_model.specs.Factors.{IsDivision, IsGreatestCommonDivisor}
+use Rattle.alg_rings.proofs.ResidueFields.{residues_propositional, residues_field}
 use Rattle.ff_poly.proofs.Euclid.{gcd_step}
 use Rattle.ff_poly.proofs.polynomials.Poly.gcd.Goals as goal
 

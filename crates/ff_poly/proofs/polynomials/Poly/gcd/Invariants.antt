@@ -1,6 +1,6 @@
 use Rattle.std.proofs.Common.{◌≡◌, ℕ, List, length}
-use Rattle.ff_model.specs.Coefficients.{residues}
-use Rattle.ff_model.specs.Factors.{IsPolynomial, IsGreatestCommonDivisor}
+use Rattle.alg_model.specs.Coefficients.{residues}
+use Rattle.alg_model.specs.Factors.{IsPolynomial, IsGreatestCommonDivisor}
 use Rattle.ff_poly.proofs.polynomials.Poly.gcd.Given as goal
 
 abbrev pub invariant-euclid : goal.invariant-euclid

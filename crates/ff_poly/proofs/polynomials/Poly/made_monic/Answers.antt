@@ -1,9 +1,9 @@
 use Rattle.std.proofs.Common.{◌≡◌, ◌≢◌, [], length, ap, sym, ◌∙◌, subst, arith}
 use Rattle.std.proofs.lemmas.Bool.Decides.{nat_tests}
-use Rattle.ff_model.specs.Coefficients.{mod_ops, residues}
-use Rattle.ff_model.specs.Polynomials.{poly_product}
-use Rattle.ff_model.specs.Factors.{IsGreatestCommonDivisor}
-use Rattle.ff_rings.proofs.ResidueFields.{residues_propositional, residues_field}
+use Rattle.alg_model.specs.Coefficients.{mod_ops, residues}
+use Rattle.alg_model.specs.Polynomials.{poly_product}
+use Rattle.alg_model.specs.Factors.{IsGreatestCommonDivisor}
+use Rattle.alg_rings.proofs.ResidueFields.{residues_propositional, residues_field}
 use Rattle.ff_poly.proofs.Euclid.{multiple_gcd}
 use Rattle.ff_poly.proofs.polynomials.Poly.made_monic.Goals as goal
 

@@ -1,6 +1,6 @@
 use Rattle.std.proofs.Common.{ap, ap₂, ◌∙◌}
-use Rattle.ff_model.specs.Coefficients.{mod_ops}
-use Rattle.ff_model.specs.Polynomials.{product, poly_product}
+use Rattle.alg_model.specs.Coefficients.{mod_ops}
+use Rattle.alg_model.specs.Polynomials.{product, poly_product}
 use Rattle.ff_poly.proofs.Convolutions.{product_cut}
 use Rattle.ff_poly.proofs.polynomials.Poly.mul.Goals as goal
 

@@ -1,9 +1,9 @@
 use Rattle.std.proofs.Common.{◌≡◌, ◌≢◌, ◌-◌, ◌*◌, ◌%◌, [], ◌∷◌, length, slice_index, ap, sym, ◌∙◌, subst, arith}
-use Rattle.ff_model.specs.Coefficients.{mod_ops}
-use Rattle.ff_model.specs.Polynomials.{trim}
-use Rattle.ff_rings.proofs.Lists.{length_not_nil}
-use Rattle.ff_rings.proofs.Trims.{last_not_zero, leading_at}
-use Rattle.ff_rings.proofs.Residues.{zero_test}
+use Rattle.alg_model.specs.Coefficients.{mod_ops}
+use Rattle.alg_model.specs.Polynomials.{trim}
+use Rattle.alg_rings.proofs.Lists.{length_not_nil}
+use Rattle.alg_rings.proofs.Trims.{last_not_zero, leading_at}
+use Rattle.alg_rings.proofs.Residues.{zero_test}
 use Rattle.ff_poly.proofs.polynomials.Poly.normalizer.Goals as goal
 
 pub inv-inverse-requires-clause-not_zero : goal.inv-inverse-requires-clause-not_zero

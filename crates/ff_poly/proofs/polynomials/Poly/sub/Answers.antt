@@ -1,14 +1,14 @@
 use Rattle.std.proofs.Common.{◌≡◌, ℕ, ◌+◌, ◌-◌, ◌*◌, ◌%◌, ◌<◌, slice_index, ap, ap₂, sym, ◌∙◌, subst, arith}
 use Rattle.std.proofs.lemmas.List.{length-map}
 use native.Mathlib.Nat.{zero-add, add-mod-mod}
-use Rattle.ff_model.specs.Coefficients.{mod_ops, residues, IsCharacteristic}
-use Rattle.ff_model.specs.Polynomials.{sum, poly_negative, poly_difference}
-use Rattle.ff_model.specs.Factors.{IsPolynomial}
-use Rattle.ff_model.specs.Fields.{IsRing}
-use Rattle.ff_rings.proofs.Residues.{residues_ring}
-use Rattle.ff_rings.proofs.ResidueFields.{residues_propositional}
-use Rattle.ff_rings.proofs.Validity.{negatives_valid, place_valid}
-use Rattle.ff_rings.proofs.Carriers.{sum_at, negatives_at}
+use Rattle.alg_model.specs.Coefficients.{mod_ops, residues, IsCharacteristic}
+use Rattle.alg_model.specs.Polynomials.{sum, poly_negative, poly_difference}
+use Rattle.alg_model.specs.Factors.{IsPolynomial}
+use Rattle.alg_model.specs.Fields.{IsRing}
+use Rattle.alg_rings.proofs.Residues.{residues_ring}
+use Rattle.alg_rings.proofs.ResidueFields.{residues_propositional}
+use Rattle.alg_rings.proofs.Validity.{negatives_valid, place_valid}
+use Rattle.alg_rings.proofs.Carriers.{sum_at, negatives_at}
 use Rattle.ff_poly.proofs.ListPlaces.{cut_at, residue_sum_past, taken_from}
 use Rattle.ff_poly.proofs.Characteristics.{characteristic_small}
 use Rattle.ff_poly.proofs.polynomials.Poly.sub.Goals as goal

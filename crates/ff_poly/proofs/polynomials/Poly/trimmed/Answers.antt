@@ -1,9 +1,9 @@
 use Rattle.std.proofs.Common.{length, sym, ap, ◌∙◌, subst, arith, length-take}
-use Rattle.ff_model.specs.Coefficients.{residues}
-use Rattle.ff_model.specs.Factors.{IsPolynomial}
-use Rattle.ff_rings.proofs.Residues.{residues_ring}
-use Rattle.ff_rings.proofs.ResidueFields.{residues_propositional}
-use Rattle.ff_rings.proofs.Carriers.{trim_polynomial}
+use Rattle.alg_model.specs.Coefficients.{residues}
+use Rattle.alg_model.specs.Factors.{IsPolynomial}
+use Rattle.alg_rings.proofs.Residues.{residues_ring}
+use Rattle.alg_rings.proofs.ResidueFields.{residues_propositional}
+use Rattle.alg_rings.proofs.Carriers.{trim_polynomial}
 use Rattle.ff_poly.specs.Polynomial.{IsPoly}
 use Rattle.ff_poly.proofs.polynomials.Poly.trimmed.Goals as goal
 

@@ -2,7 +2,7 @@
 use Rattle.std.proofs.Common.{◌≡◌, map, take, ◌∙◌, ap, sym, subst, arith}
 use Rattle.std.proofs.lemmas.Grind.{common_steps}
 use Rattle.lattice_run.specs.Lattice.{IsLattice, prime_field}
-use Rattle.ff_model.specs.Coefficients.{primes}
+use Rattle.alg_model.specs.Coefficients.{primes}
 use Rattle.lattice_run.proofs.Lattices.{opening_is_lattice}
 use Rattle.lattice_run.proofs.lattice.Lattice.open.Goals as goal
 

@@ -1,5 +1,5 @@
 use Rattle.std.proofs.Common.{◌≡◌, map, take}
-use Rattle.ff_model.specs.Coefficients.{primes}
+use Rattle.alg_model.specs.Coefficients.{primes}
 use Rattle.lattice_run.specs.Lattice.{prime_field}
 use Rattle.lattice_run.proofs.lattice.Lattice.open.Given as goal
 
