@@ -4,7 +4,8 @@ use Rattle.std.proofs.lemmas.Bool.{cases_lt}
 use Rattle.std.proofs.lemmas.List.Elements.{Contains-append_cases}
 use Rattle.alg_model.specs.Coefficients.{Ops}
 use Rattle.alg_rings.proofs.Rings.{zero_or_not, same_from_difference}
-use Rattle.alg_divisors.proofs.Euclidean.{EuclideanLaws, Divides, normal, monic_unique, divides_or_not}
+use Rattle.alg_rings.proofs.Divisibility.{Divides}
+use Rattle.alg_divisors.proofs.Euclidean.{EuclideanLaws, normal, monic_unique, divides_or_not}
 use Rattle.alg_divisors.proofs.Irreducible.{ProperFactor, FactorOrNone}
 use Rattle.alg_divisors.proofs.Least.{contains_one}
 

@@ -12,11 +12,12 @@ use Rattle.alg_rings.specs.Laws.{IsPropositional}
 use Rattle.alg_rings.proofs.Carriers.{trim_polynomial}
 use Rattle.alg_rings.proofs.Divisors.{Polynomial, polynomial_ops, same_polynomial}
 use Rattle.alg_divisors.specs.Factorization.{IsFactorization}
+use Rattle.alg_rings.proofs.Divisibility
 use Rattle.alg_divisors.proofs.Euclidean
 use Rattle.alg_divisors.proofs.Irreducible.{FactorOrNone}
 use Rattle.alg_divisors.proofs.Factorization
 use Rattle.alg_divisors.proofs.Least
-use Rattle.alg_divisors.proofs.Order.{order_by_total}
+use Rattle.alg_rings.proofs.Order.{order_by_total}
 use Rattle.alg_divisors.proofs.Decisions.{decided_by_list}
 use Rattle.alg_divisors.proofs.Fields.{polynomials_euclidean}
 use Rattle.alg_divisors.proofs.Polynomials.{divides_to, proper_to, proper_from, irreducible_to, MonicIrreducible, product_of-map}
@@ -104,7 +105,7 @@ module _ {A : Type 0} {c : Carrier A} (P : IsPropositional c) (F : IsField c) (K
   -- an irreducible monic divisor of what isn't constant
   pub irreducible_divisor_exists : (f : List A) → IsPolynomial c f → 1 < length f → (g : List A) × IsMonic c g × IsIrreducible c g × Divides c g f
   irreducible_divisor_exists f p l =
-      let g : (g : Polynomial c) × Factorization.MonicIrreducible Q size Monic g × Euclidean.Divides Q g (f, p) = Factorization.irreducible_divisor E decide (f, p) l in
+      let g : (g : Polynomial c) × Factorization.MonicIrreducible Q size Monic g × Divisibility.Divides Q g (f, p) = Factorization.irreducible_divisor E decide (f, p) l in
       (g.0.0, g.1.monic, irreducible_to P F g.0 g.1.irreducible, divides_to P F g.0 (f, p) g.2)
 
   -- a monic polynomial with a proper factor has a least factor

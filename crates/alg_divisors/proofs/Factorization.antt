@@ -5,7 +5,8 @@ use Rattle.std.proofs.lemmas.List.Elements.{All-nil, All-cons, All-head, All-tai
 use Rattle.alg_model.specs.Coefficients.{Ops}
 use Rattle.alg_rings.specs.Laws.{RingLaws}
 use Rattle.alg_rings.proofs.Rings.{mul_left_comm}
-use Rattle.alg_divisors.proofs.Euclidean.{EuclideanLaws, Divides, divides_trans, divides_same, divides_product_left, mul_cancel, monic_not_zero, unit_from_divisor, size_of_quotient, size_positive, not_zero_from_size, normal}
+use Rattle.alg_rings.proofs.Divisibility.{Divides, divides_trans, divides_same, divides_product_left}
+use Rattle.alg_divisors.proofs.Euclidean.{EuclideanLaws, mul_cancel, monic_not_zero, unit_from_divisor, size_of_quotient, size_positive, not_zero_from_size, normal}
 use Rattle.alg_divisors.proofs.Gcd.{coprime_cancel, combination_swap}
 use Rattle.alg_divisors.proofs.Irreducible.{ProperFactor, Irreducible, FactorOrNone, euclid, irreducible_same, irreducible_not_zero, irreducible_associate, coprime_or_divides}
 

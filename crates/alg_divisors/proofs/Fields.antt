@@ -12,7 +12,7 @@ use Rattle.alg_rings.proofs.Trims
 use Rattle.alg_rings.proofs.Homomorphisms.{trim-map, leading-map}
 use Rattle.alg_rings.proofs.Elements.{value, element_ops, value_homomorphism, value_injective, on_valid, element_field}
 use Rattle.alg_rings.proofs.Validity.{leading_valid}
-use Rattle.alg_rings.proofs.Carriers.{trimmed_elements}
+use Rattle.alg_rings.proofs.Carriers.{trimmed_elements, constant_trimmed, leading_not_zero}
 use Rattle.alg_rings.proofs.Divisors.{Polynomial, polynomial_ops, polynomial_laws, same_polynomial, length_poly_product, leading_poly_product, division}
 use Rattle.alg_divisors.proofs.Euclidean.{EuclideanLaws}
 
@@ -23,19 +23,8 @@ module _ {A : Type 0} {c : Carrier A} (P : IsPropositional c) (F : IsField c) wh
   abbrev Q : Ops (Polynomial c)
   Q = polynomial_ops P F.ring
 
-  -- a constant that isn't zero is a polynomial of one coefficient
-  pub constant_trimmed : (y : A) → c.Valid y → y ≢ c.ops.zero → trim c.ops (y ∷ []) ≡ y ∷ []
-  constant_trimmed y v n = sym (trim-map (value_homomorphism F.ring) ((y, v) ∷ []))
-      ∙ ap (map (value c)) (Trims.cons_trimmed_not_zero (element_ops F.ring) L.ring.zero_test (y, v) (λ e. n (ap (value c) e)))
-
   pub one_is : trim c.ops (c.ops.one ∷ []) ≡ c.ops.one ∷ []
-  one_is = constant_trimmed c.ops.one F.ring.one_valid F.one_not_zero
-
-  pub leading_not_zero : (f : List A) → IsPolynomial c f → f ≢ [] → leading c.ops f ≢ c.ops.zero
-  leading_not_zero f p = on_valid c (λ f. trim c.ops f ≡ f → f ≢ [] → leading c.ops f ≢ c.ops.zero)
-      (λ G e n z. n (ap (map (value c)) (Trims.nil_from_leading (element_ops F.ring) L.ring.zero_test G (trimmed_elements P F.ring G e)
-      (value_injective P (leading (element_ops F.ring) G) (c.ops.zero, F.ring.zero_valid) (leading-map (value_homomorphism F.ring) G ∙ z)))))
-      f p.0 p.1
+  one_is = constant_trimmed P F.ring c.ops.one F.ring.one_valid F.one_not_zero
 
   single : (f : List A) → length f ≡ 1 → f ≡ leading c.ops f ∷ []
   single [] e = absurd (omega arith)
@@ -69,7 +58,7 @@ module _ {A : Type 0} {c : Carrier A} (P : IsPropositional c) (F : IsField c) wh
           ∙ ap (value c) (Rings.mul_zero L.ring (leading c.ops a.0, leading_valid F.ring a.0 a.1.0)))
 
       u : IsPolynomial c (i.0 ∷ [])
-      u = (All-cons c.Valid i.0 [] i.1 (All-nil c.Valid), constant_trimmed i.0 i.1 not_zero)
+      u = (All-cons c.Valid i.0 [] i.1 (All-nil c.Valid), constant_trimmed P F.ring i.0 i.1 not_zero)
 
   pub polynomials_euclidean : EuclideanLaws (polynomial_ops P F.ring) (λ x. length x.0) (λ x. IsMonic c x.0)
   polynomials_euclidean = record {
@@ -84,5 +73,5 @@ module _ {A : Type 0} {c : Carrier A} (P : IsPropositional c) (F : IsField c) wh
     monic_mul = λ a b m n. leading_poly_product P F a.0 b.0 a.1 b.1 ∙ ap₂ c.ops.mul m n ∙ F.ring.one_mul c.ops.one F.ring.one_valid;
     monic_quotient = monic_quotient;
     monic_unit = λ u m e. same_polynomial P F.ring u Q.one (single u.0 e ∙ ap (λ t. t ∷ []) m ∙ sym one_is);
-    normalize = λ a n. normalized a (F.inverse (leading c.ops a.0) (leading_valid F.ring a.0 a.1.0) (leading_not_zero a.0 a.1 (not_nil a n)));
+    normalize = λ a n. normalized a (F.inverse (leading c.ops a.0) (leading_valid F.ring a.0 a.1.0) (leading_not_zero P F.ring a.0 a.1 (not_nil a n)));
   }

@@ -6,7 +6,8 @@ use Rattle.std.proofs.Common.{◌≡◌, ◌⊎◌, ⊎_elim, inl, inr, ℕ, zer
 use Rattle.alg_model.specs.Coefficients.{Ops}
 use Rattle.alg_rings.specs.Laws.{RingLaws}
 use Rattle.alg_rings.proofs.Rings.{zero_or_not, mul_zero, zero_mul, mul_one, add_mul, neg_mul, add_zero, neg_unique, expanded}
-use Rattle.alg_divisors.proofs.Euclidean.{EuclideanLaws, Divides, divides_itself, divides_zero, divides_trans, divides_multiple, divides_multiple_right, divides_product, divides_sum, divides_negative, divides_same, normal, monic_unique, inverse_of_unit, unit_from_divisor}
+use Rattle.alg_rings.proofs.Divisibility.{Divides, divides_itself, divides_zero, divides_trans, divides_multiple, divides_multiple_right, divides_product, divides_sum, divides_negative, divides_same}
+use Rattle.alg_divisors.proofs.Euclidean.{EuclideanLaws, normal, monic_unique, inverse_of_unit, unit_from_divisor}
 
 pub record Combination {R : Type 0} (o : Ops R) (a b g : R) : Type 0 where
   pub first : R

@@ -3,7 +3,8 @@
 --     Irreducible o size Monic f        larger than a unit, with no proper factor
 use Rattle.std.proofs.Common.{◌≡◌, ◌≢◌, ◌⊎◌, ⊎_elim, inl, inr, ℕ, ◌<◌, ◌≤◌, sym, arith, eq-or-lt_of_le}
 use Rattle.alg_model.specs.Coefficients.{Ops}
-use Rattle.alg_divisors.proofs.Euclidean.{EuclideanLaws, Divides, divides_trans, normal, monic_same, monic_not_zero, size_of_divisor, size_positive, divisor_not_zero, associate, not_zero_from_size}
+use Rattle.alg_rings.proofs.Divisibility.{Divides, divides_trans}
+use Rattle.alg_divisors.proofs.Euclidean.{EuclideanLaws, normal, monic_same, monic_not_zero, size_of_divisor, size_positive, divisor_not_zero, associate, not_zero_from_size}
 use Rattle.alg_divisors.proofs.Gcd.{Gcd, Coprime, gcd_exists, coprime_from_gcd, coprime_cancel}
 
 pub record ProperFactor {R : Type 0} (o : Ops R) (size : R → ℕ) (Monic : R → Type 0) (f g : R) : Type 0 where

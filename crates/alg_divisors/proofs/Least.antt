@@ -11,7 +11,8 @@ use Rattle.std.specs.Cmp.{IsTotalOrder}
 use Rattle.std.proofs.lemmas.Cmp.{tied_itself}
 use Rattle.alg_model.specs.Coefficients.{Ops}
 use Rattle.alg_rings.proofs.Rings.{mul_one}
-use Rattle.alg_divisors.proofs.Euclidean.{EuclideanLaws, Divides, divides_same, divides_product_left, monic_same, monic_not_zero, size_of_divisor, size_positive}
+use Rattle.alg_rings.proofs.Divisibility.{Divides, divides_same, divides_product_left}
+use Rattle.alg_divisors.proofs.Euclidean.{EuclideanLaws, monic_same, monic_not_zero, size_of_divisor, size_positive}
 use Rattle.alg_divisors.proofs.Irreducible.{ProperFactor, Irreducible, factor_of_factor}
 use Rattle.alg_divisors.proofs.Factorization.{product, MonicIrreducible, Factored, product_middle, member_divides, monic_product}
 

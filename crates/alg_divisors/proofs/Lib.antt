@@ -2,7 +2,6 @@ pub mod Euclidean
 pub mod Gcd
 pub mod Irreducible
 pub mod Factorization
-pub mod Order
 pub mod Least
 pub mod Decisions
 pub mod Fields

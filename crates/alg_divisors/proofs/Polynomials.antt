@@ -9,6 +9,7 @@ use Rattle.alg_model.specs.Fields.{IsField}
 use Rattle.alg_rings.specs.Laws.{IsPropositional}
 use Rattle.alg_rings.proofs.Divisors.{Polynomial, polynomial_ops, same_polynomial, divided_is_polynomial}
 use Rattle.alg_divisors.specs.Factorization.{product_of, IsFactorization, IsCombination, AreCoprime}
+use Rattle.alg_rings.proofs.Divisibility
 use Rattle.alg_divisors.proofs.Euclidean
 use Rattle.alg_divisors.proofs.Gcd
 use Rattle.alg_divisors.proofs.Irreducible
@@ -35,10 +36,10 @@ module _ {A : Type 0} {c : Carrier A} (P : IsPropositional c) (F : IsField c) wh
   list_of f = f.0
 
   -- ---- the theory's words and the carrier's
-  pub divides_to : (f g : Polynomial c) → Euclidean.Divides (polynomial_ops P F.ring) f g → Divides c f.0 g.0
+  pub divides_to : (f g : Polynomial c) → Divisibility.Divides (polynomial_ops P F.ring) f g → Divides c f.0 g.0
   divides_to f g h = (h.quotient.0, h.quotient.1, ap list_of h.identity)
 
-  pub divides_from : (f g : Polynomial c) → Divides c f.0 g.0 → Euclidean.Divides (polynomial_ops P F.ring) f g
+  pub divides_from : (f g : Polynomial c) → Divides c f.0 g.0 → Divisibility.Divides (polynomial_ops P F.ring) f g
   divides_from f g h = record { quotient = (h.0, h.1); identity = same (Q.mul (h.0, h.1) f) g h.2 }
 
   pub combination_to : (a b g : Polynomial c) → Gcd.Combination Q a b g → IsCombination c a.0 b.0 g.0
@@ -178,7 +179,7 @@ module _ {A : Type 0} {c : Carrier A} (P : IsPropositional c) (F : IsField c) wh
   chinese a b p q k =
       let x : Polynomial c = (a, p) in
       let y : Polynomial c = (b, q) in
-      let v : (v : Polynomial c) × Euclidean.Divides Q x v × Euclidean.Divides Q y (Q.add v (Q.neg Q.one))
+      let v : (v : Polynomial c) × Divisibility.Divides Q x v × Divisibility.Divides Q y (Q.add v (Q.neg Q.one))
       = Gcd.chinese E.ring (combination_from x y Q.one k) in
       (v.0.0, v.0.1, divides_to x v.0 v.1, divides_to y (Q.add v.0 (Q.neg Q.one)) v.2)
 

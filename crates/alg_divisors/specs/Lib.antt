@@ -1,1 +1,2 @@
 pub mod Factorization
+pub mod Theorems

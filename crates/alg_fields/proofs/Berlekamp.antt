@@ -7,16 +7,18 @@ use Rattle.alg_model.specs.Coefficients.{Ops, power}
 use Rattle.alg_rings.specs.Laws.{RingLaws}
 use Rattle.alg_rings.proofs.Rings
 use Rattle.alg_rings.proofs.Rings.{expanded}
+use Rattle.alg_rings.proofs.Divisibility
 use Rattle.alg_divisors.proofs.Euclidean
-use Rattle.alg_divisors.proofs.Euclidean.{EuclideanLaws, Divides}
+use Rattle.alg_rings.proofs.Divisibility.{Divides}
+use Rattle.alg_divisors.proofs.Euclidean.{EuclideanLaws}
 use Rattle.alg_divisors.proofs.Gcd
 use Rattle.alg_divisors.proofs.Gcd.{Gcd, Combination, Coprime}
 use Rattle.alg_divisors.proofs.Irreducible
 use Rattle.alg_divisors.proofs.Irreducible.{ProperFactor, Irreducible}
 use Rattle.alg_divisors.proofs.Factorization.{product}
-use Rattle.alg_fields.proofs.Powers
-use Rattle.alg_fields.proofs.Modulo
-use Rattle.alg_fields.proofs.Modulo.{Same}
+use Rattle.alg_rings.proofs.Powers
+use Rattle.alg_rings.proofs.Modulo
+use Rattle.alg_rings.proofs.Modulo.{Same}
 use Rattle.alg_fields.proofs.Squares
 use Rattle.alg_fields.proofs.Squares.{ProductRule}
 
@@ -51,14 +53,14 @@ module _ {P : Type 0} {o : Ops P} (L : RingLaws o) where
   -- where the product of v - c over the members c of a list is v^p - v, f divides it
   pub fixed_divides_product : {f v : P} (p : ℕ) (cs : List P) → product o (differences o v cs) ≡ power o v p ⊕ neg v
       → Fixed o p f v → Divides o f (product o (differences o v cs))
-  fixed_divides_product p cs e h = Euclidean.divides_same L (sym e) (Modulo.divides_from_same L h)
+  fixed_divides_product p cs e h = Divisibility.divides_same L (sym e) (Modulo.divides_from_same L h)
 
   -- v is 0 modulo g and 1 modulo h, so it is fixed modulo g * h
   pub fixed_from_parts : {g h v : P} (n : ℕ) → Divides o g v → Divides o h (v ⊕ neg I) → Fixed o (suc n) (g ⊗ h) v
-  fixed_from_parts {g} {h} {v} n at_g at_h = Modulo.same_from_divides L (Euclidean.divides_same L whole both)
+  fixed_from_parts {g} {h} {v} n at_g at_h = Modulo.same_from_divides L (Divisibility.divides_same L whole both)
     where
       less_one : Divides o h (power o v n ⊕ neg I)
-      less_one = Euclidean.divides_same L (ap (λ t. power o v n ⊕ neg t) (Powers.power_of_one L n))
+      less_one = Divisibility.divides_same L (ap (λ t. power o v n ⊕ neg t) (Powers.power_of_one L n))
           (Modulo.divides_from_same L (Modulo.same_power L (Modulo.same_from_divides L at_h) n))
 
       together : (g h r q : P) → r ⊗ q ⊗ (g ⊗ h) ≡ q ⊗ g ⊗ (r ⊗ h)
@@ -89,7 +91,7 @@ module _ {P : Type 0} {o : Ops P} {size : P → ℕ} {Monic : P → Type 0} (E :
   split_step : (f : P) → 1 < size f → (a : P) (rest : List P) → Divides o f (a ⊗ product o rest)
       → (Divides o f (product o rest) → SplitBy f rest) → SplitBy f (a ∷ rest)
   split_step f l a rest h further = ⊎_elim
-      (λ e. (a, (0, omega arith, refl), inl (Euclidean.divides_trans E.ring (Euclidean.associate E g.2.divides_first n (omega arith)) g.2.divides_second)))
+      (λ e. (a, (0, omega arith, refl), inl (Divisibility.divides_trans E.ring (Euclidean.associate E g.2.divides_first n (omega arith)) g.2.divides_second)))
       (λ smaller. ⊎_elim
       (λ larger. (a, (0, omega arith, refl), inr (g.0, g.2, record { monic = monic; not_constant = larger; smaller = smaller; divides = g.2.divides_first })))
       (λ small. split_later f a rest (further (Gcd.coprime_cancel E.ring (Gcd.coprime_from_gcd E g.2 (unit small)) h)))
@@ -129,7 +131,7 @@ module _ {P : Type 0} {o : Ops P} {size : P → ℕ} {Monic : P → Type 0} (E :
       c = member_of_differences o v s.0 cs s.1
 
       outcome : Same o f v c.0 ⊎ ((g : P) × Gcd o f s.0 g × ProperFactor o size Monic f g)
-      outcome = ⊎_elim (λ d. inl (Modulo.same_from_divides E.ring (Euclidean.divides_same E.ring (sym c.2) d))) inr s.2
+      outcome = ⊎_elim (λ d. inl (Modulo.same_from_divides E.ring (Divisibility.divides_same E.ring (sym c.2) d))) inr s.2
 
   -- where f is a product of coprime factors that aren't units, some fixed v is no constant modulo f
   pub not_constant_from_parts : {f g h v c : P} → Divides o g f → Divides o h f → 1 < size g → 1 < size h → Divides o g v
@@ -143,9 +145,9 @@ module _ {P : Type 0} {o : Ops P} {size : P → ℕ} {Monic : P → Type 0} (E :
 
       at_zero : c ≡ O → ⊥
       at_zero z =
-          let hv : Divides o h v = Modulo.divides_across E.ring (Modulo.same_for_divisor E.ring hf s) (Euclidean.divides_same E.ring (sym z) (Euclidean.divides_zero E.ring h)) in
-          let minus : Divides o h (neg I) = Euclidean.divides_rest E.ring at_h hv in
-          let one : Divides o h I = Euclidean.divides_same E.ring (Rings.neg_neg E.ring I) (Euclidean.divides_negative E.ring minus) in
+          let hv : Divides o h v = Modulo.divides_across E.ring (Modulo.same_for_divisor E.ring hf s) (Divisibility.divides_same E.ring (sym z) (Divisibility.divides_zero E.ring h)) in
+          let minus : Divides o h (neg I) = Divisibility.divides_rest E.ring at_h hv in
+          let one : Divides o h I = Divisibility.divides_same E.ring (Rings.neg_neg E.ring I) (Divisibility.divides_negative E.ring minus) in
           let e : size h ≡ 1 = Euclidean.unit_from_divisor E h one in omega arith
 
   -- **a product of coprime factors that aren't units has a fixed v, smaller than it, that is no constant**
@@ -171,8 +173,8 @@ module _ {P : Type 0} {o : Ops P} {size : P → ℕ} {Monic : P → Type 0} (E :
 
       large : 1 < size r.1
       large = ⊎_elim (λ l. l)
-          (λ small. absurd (not_constant_from_parts (Euclidean.divides_same E.ring e (Euclidean.divides_product_left E.ring g h))
-          (Euclidean.divides_same E.ring e (Euclidean.divides_product E.ring h g)) lg lh v.1 v.2 small s))
+          (λ small. absurd (not_constant_from_parts (Divisibility.divides_same E.ring e (Divisibility.divides_product_left E.ring g h))
+          (Divisibility.divides_same E.ring e (Divisibility.divides_product E.ring h g)) lg lh v.1 v.2 small s))
           (cases_lt 1 (size r.1))
 
   power_not_zero : (g : P) (n : ℕ) → g ≢ O → power o g n ≢ O
@@ -195,7 +197,7 @@ module _ {P : Type 0} {o : Ops P} {size : P → ℕ} {Monic : P → Type 0} (E :
       larger = i.not_constant
 
       g_divides : Divides o g f
-      g_divides = Euclidean.divides_same E.ring e (Euclidean.divides_product E.ring g (power o g (suc n)))
+      g_divides = Divisibility.divides_same E.ring e (Divisibility.divides_product E.ring g (power o g (suc n)))
 
       not_zero : g ≢ O
       not_zero = Euclidean.divisor_not_zero E g_divides (Euclidean.not_zero_from_size E f (omega arith))
@@ -209,7 +211,7 @@ module _ {P : Type 0} {o : Ops P} {size : P → ℕ} {Monic : P → Type 0} (E :
           let s : suc (size (power o g (suc n) ⊗ g)) ≡ size (power o g (suc n)) + size g = E.size_mul (power o g (suc n)) g m not_zero in
           let t : size (power o g (suc n) ⊗ g) ≡ size f = ap size e in
           let k : size f ≤ size g = Euclidean.size_of_divisor E d not_zero in
-          let j : size g ≤ size (power o g (suc n)) = Euclidean.size_of_divisor E (Euclidean.divides_product E.ring g (power o g n)) m in
+          let j : size g ≤ size (power o g (suc n)) = Euclidean.size_of_divisor E (Divisibility.divides_product E.ring g (power o g n)) m in
           let positive : 0 < size g = Euclidean.size_positive E g not_zero in
           omega arith
 

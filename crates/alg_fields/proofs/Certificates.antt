@@ -4,7 +4,7 @@ use Rattle.std.proofs.Common.{ap₂, ◌∷◌, ◌≡◌, ◌≢◌, ◌⊎◌,
 use Rattle.std.proofs.lemmas.List.{length-map, get_or-map}
 use Rattle.std.proofs.lemmas.List.Elements.{All-map, Contains-get_or}
 use Rattle.alg_divisors.proofs.LeastFactors.{contains_from_map}
-use Rattle.alg_fields.proofs.Powers
+use Rattle.alg_rings.proofs.Powers
 use Rattle.alg_model.specs.Coefficients.{Ops, Carrier, times, power}
 use Rattle.alg_model.specs.Polynomials.{derivative, poly_product, poly_difference, poly_power}
 use Rattle.alg_model.specs.Factors.{IsPolynomial, IsMonic, Divides, IsGreatestCommonDivisor, IsProperFactor, IsIrreducible}
@@ -13,8 +13,9 @@ use Rattle.alg_rings.specs.Laws.{IsPropositional}
 use Rattle.alg_rings.proofs.Homomorphisms.{power-map}
 use Rattle.alg_rings.proofs.Trims
 use Rattle.alg_rings.proofs.Elements.{Element, element_ops, element_laws}
-use Rattle.alg_rings.proofs.Divisors.{Polynomial, polynomial_ops, same_polynomial}
+use Rattle.alg_rings.proofs.Divisors.{Polynomial, polynomial_ops, same_polynomial, power_is}
 use Rattle.alg_divisors.specs.Factorization.{AreCoprime, product_of}
+use Rattle.alg_rings.proofs.Divisibility
 use Rattle.alg_divisors.proofs.Euclidean
 use Rattle.alg_divisors.proofs.Gcd
 use Rattle.alg_divisors.proofs.Irreducible
@@ -22,8 +23,8 @@ use Rattle.alg_divisors.proofs.Factorization
 use Rattle.alg_divisors.proofs.Fields.{polynomials_euclidean}
 use Rattle.alg_divisors.proofs.Polynomials.{divides_to, divides_from, combination_to, combination_from, proper_to, irreducible_to, irreducible_from, gcd_to, gcd_unique, product_of-map}
 use Rattle.alg_fields.specs.Fixed.{IsFixed, less_constant, IsCertified}
-use Rattle.alg_fields.proofs.Modulo
-use Rattle.alg_fields.proofs.Modulo.{Same}
+use Rattle.alg_rings.proofs.Modulo
+use Rattle.alg_rings.proofs.Modulo.{Same}
 use Rattle.alg_fields.proofs.Berlekamp
 use Rattle.alg_fields.proofs.Berlekamp.{Fixed, differences}
 use Rattle.alg_fields.proofs.Constants
@@ -33,7 +34,7 @@ use Rattle.alg_fields.proofs.Derivations
 use Rattle.alg_fields.proofs.Derivations.{derivative_of, product_rule}
 use Rattle.alg_fields.proofs.FermatProduct
 use Rattle.alg_fields.proofs.FiniteFields.{FieldOfSize}
-use Rattle.alg_fields.proofs.Frobenius.{IsPrime}
+use Rattle.alg_model.specs.Coefficients.{IsPrime}
 use Rattle.alg_fields.proofs.Squares
 use Rattle.alg_fields.proofs.Gcds
 use Rattle.alg_rings.proofs.Rings
@@ -45,20 +46,15 @@ module _ {A : Type 0} {c : Carrier A} (P : IsPropositional c) (F : IsField c) wh
   abbrev E : Euclidean.EuclideanLaws (polynomial_ops P F.ring) (λ x. length x.0) (λ x. IsMonic c x.0)
   E = polynomials_euclidean P F
 
-  -- powers in the ring of polynomials
-  pub power_is : (f : Polynomial c) (n : ℕ) → (power (polynomial_ops P F.ring) f n).0 ≡ poly_power c.ops f.0 n
-  power_is f zero = refl
-  power_is f (suc n) = ap (λ w. poly_product c.ops w f.0) (power_is f n)
-
   pub fixed_to : (q : ℕ) (f v : Polynomial c) → Fixed (polynomial_ops P F.ring) q f v → IsFixed c q f.0 v.0
   fixed_to q f v h =
-      subst (λ w. Divides c f.0 (poly_difference c.ops w v.0)) (power_is v q)
+      subst (λ w. Divides c f.0 (poly_difference c.ops w v.0)) (power_is P F.ring v q)
       (divides_to P F f (Q.add (power Q v q) (Q.neg v)) (Modulo.divides_from_same E.ring h))
 
   pub fixed_from : (q : ℕ) (f v : Polynomial c) → IsFixed c q f.0 v.0 → Fixed (polynomial_ops P F.ring) q f v
   fixed_from q f v h =
       Modulo.same_from_divides E.ring (divides_from P F f (Q.add (power Q v q) (Q.neg v))
-      (subst (λ w. Divides c f.0 (poly_difference c.ops w v.0)) (sym (power_is v q)) h))
+      (subst (λ w. Divides c f.0 (poly_difference c.ops w v.0)) (sym (power_is P F.ring v q)) h))
 
   -- ---- squares
   pub square_divides_derivative : (f g : List A) → IsPolynomial c f → IsPolynomial c g → Divides c (poly_product c.ops g g) f → Divides c g (derivative c.ops f)
@@ -175,7 +171,7 @@ module _ {A : Type 0} {c : Carrier A} (P : IsPropositional c) (F : IsField c) wh
         b = constant_of r.0 r.1
 
     -- differences of members are units, so all v - a are pairwise coprime
-    member_difference : (a b : Polynomial c) → Contains constants a → Contains constants b → a ≢ b → Euclidean.Divides Q (Q.add b (Q.neg a)) Q.one
+    member_difference : (a b : Polynomial c) → Contains constants a → Contains constants b → a ≢ b → Divisibility.Divides Q (Q.add b (Q.neg a)) Q.one
     member_difference a b ma mb n =
         let d : Polynomial c = Q.add b (Q.neg a) in
         let not_zero : d ≢ Q.zero = λ z. n (sym (Rings.same_from_difference E.ring b a z)) in
@@ -259,7 +255,7 @@ module _ {A : Type 0} {c : Carrier A} (P : IsPropositional c) (F : IsField c) wh
           → (derivative c.ops f ≡ []) ↔ ((g : List A) × IsPolynomial c g × (poly_power c.ops g p ≡ f))
       derivative_zero_iff f vf = (
         (λ e. let g = Derivations.root_from_derivative P F.ring p prime characteristic root root_is (f, vf) (same_polynomial P F.ring _ _ e) in
-            (g.0.0, g.0.1, sym (power_is g.0 p) ∙ ap (λ h. h.0) g.1)),
+            (g.0.0, g.0.1, sym (power_is P F.ring g.0 p) ∙ ap (λ h. h.0) g.1)),
         (λ g. ap (λ h. h.0) (Derivations.derivative_from_root P F.ring p prime characteristic (f, vf) (g.0, g.1)
-            (same_polynomial P F.ring _ _ (power_is (g.0, g.1) p ∙ g.2)))),
+            (same_polynomial P F.ring _ _ (power_is P F.ring (g.0, g.1) p ∙ g.2)))),
       )

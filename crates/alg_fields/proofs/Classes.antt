@@ -14,7 +14,7 @@ use Rattle.alg_rings.proofs.Homomorphisms.{Homomorphism, sum-map, product-map, t
 use Rattle.alg_rings.proofs.Elements.{Element, value, element_ops, value_homomorphism, value_injective, on_valid, on_valid₂, values_valid, values_injective, element_laws}
 use Rattle.alg_rings.proofs.Carriers.{trim_polynomial}
 use Rattle.alg_rings.proofs.Divisors.{Polynomial, polynomial_ops, same_polynomial}
-use Rattle.alg_fields.proofs.Modulo.{Same}
+use Rattle.alg_rings.proofs.Modulo.{Same}
 use Rattle.alg_fields.proofs.Reduction.{quotient_by, zeros_at, reduced_identity, trim_padded}
 use Rattle.alg_fields.proofs.ValueMaps.{reduced-map, quotient_by-map, padded-map, zeros-map}
 

@@ -17,7 +17,7 @@ use Rattle.alg_fields.proofs.PowerRoots
 use Rattle.alg_fields.proofs.PowerRoots.{every}
 use Rattle.alg_fields.proofs.Generator.{generator, polynomial_is_value}
 use Rattle.alg_fields.proofs.Frobenius
-use Rattle.alg_fields.proofs.Frobenius.{IsPrime}
+use Rattle.alg_model.specs.Coefficients.{IsPrime}
 use Rattle.alg_fields.proofs.Derivatives.{raw_derivative}
 use Rattle.alg_fields.proofs.Constants.{constant, constant_homomorphism}
 use Rattle.alg_rings.proofs.Trims

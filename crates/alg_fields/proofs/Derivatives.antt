@@ -6,7 +6,7 @@ use Rattle.alg_rings.specs.Laws.{RingLaws}
 use Rattle.alg_rings.proofs.Rings
 use Rattle.alg_rings.proofs.Lists
 use Rattle.alg_rings.proofs.Trims
-use Rattle.alg_fields.proofs.Powers
+use Rattle.alg_rings.proofs.Powers
 
 abbrev pub raw_derivative : {A : Type 0} → Ops A → List A → List A
 raw_derivative o [] = []

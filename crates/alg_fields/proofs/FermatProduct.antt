@@ -8,7 +8,7 @@ use Rattle.alg_rings.proofs.Lists
 use Rattle.alg_rings.proofs.Trims
 use Rattle.alg_rings.proofs.Monomials.{monomial}
 use Rattle.alg_divisors.proofs.Factorization
-use Rattle.alg_fields.proofs.Points
+use Rattle.alg_rings.proofs.Points
 use Rattle.alg_fields.proofs.Roots
 use Rattle.alg_fields.proofs.Roots.{IsDomain, linear, linear_product}
 use Rattle.alg_fields.proofs.Berlekamp.{differences}

@@ -9,7 +9,7 @@ use Rattle.alg_model.specs.Fields.{IsRing}
 use Rattle.alg_rings.proofs.ResidueFields.{residues_propositional}
 use Rattle.alg_rings.proofs.Elements.{Element, element_ops, element_laws, value_injective}
 use Rattle.alg_fields.proofs.Frobenius
-use Rattle.alg_fields.proofs.Frobenius.{IsPrime}
+use Rattle.alg_model.specs.Coefficients.{IsPrime}
 
 -- q elements in a list, each its own power q
 pub record FieldOfSize {A : Type 0} {c : Carrier A} (R : IsRing c) (q : ℕ) : Type 0 where

@@ -1,23 +1,19 @@
 -- Rings of characteristic p, for a prime p: a -> a^p keeps sums.
-use Rattle.std.proofs.Common.{◌≡◌, ◌≢◌, ◌↔◌, ⊎_elim, mod-lt, eq-zero-or-pos, pos_of_ne-zero, ◌^◌, ◌<◌, ℕ, zero, suc, ◌+◌, ◌*◌, ◌/◌, ◌%◌, ◌<◌, List, [], ◌∷◌, length, slice_index_or, pred, refl, ap, ap₂, sym, ◌∙◌, arith}
+use Rattle.std.proofs.Common.{◌≡◌, ◌≢◌, ◌↔◌, ⊎_elim, mod-lt, eq-zero-or-pos, pos_of_ne-zero, ◌^◌, ◌<◌, ℕ, zero, suc, ◌+◌, ◌*◌, ◌/◌, ◌%◌, ◌<◌, List, [], ◌∷◌, length, slice_index_or, pred, refl, ap, ap₂, sym, ◌∙◌, arith, mul_comm}
 use Rattle.std.proofs.Math.Nat.{zero-mod, div-add-mod, pow-zero, pow-suc}
-use Rattle.alg_model.specs.Coefficients.{Ops, times, power}
+use Rattle.alg_model.specs.Coefficients.{Ops, times, power, IsPrime}
 use Rattle.alg_model.specs.Polynomials.{sum, scale, shift, product, leading, derivative, value_at}
 use Rattle.alg_rings.specs.Laws.{RingLaws}
 use Rattle.alg_rings.proofs.Rings
 use Rattle.alg_rings.proofs.Lists
 use Rattle.alg_rings.proofs.Rings.{sorted, expanded}
-use Rattle.alg_fields.proofs.Powers
-use Rattle.alg_fields.proofs.Points
+use Rattle.alg_rings.proofs.Primes.{inverse_modulo}
+use Rattle.alg_rings.proofs.Powers
+use Rattle.alg_rings.proofs.Points
 use Rattle.alg_rings.proofs.Trims
 use Rattle.alg_rings.proofs.Division
 use Rattle.alg_fields.proofs.Derivatives
 use Rattle.alg_fields.proofs.Derivatives.{raw_derivative}
-
--- each number from 1 to p - 1 has an inverse modulo p: so it is exactly for a prime p
-pub record IsPrime (p : ℕ) : Type 0 where
-  pub above_one : 1 < p
-  pub inverse : (k : ℕ) → 0 < k → k < p → (u : ℕ) × (u * k % p ≡ 1)
 
 module _ {A : Type 0} {o : Ops A} (R : RingLaws o) where
   open o use {zero as O, one as I, add as ◌⊕◌, mul as ◌⊗◌, neg}
@@ -99,8 +95,8 @@ module _ {A : Type 0} {o : Ops A} (R : RingLaws o) where
     -- a multiple that isn't one of p is zero of zero alone
     pub zero_from_times : (k : ℕ) (a : A) → 0 < k → k < p → times o k a ≡ O → a ≡ O
     zero_from_times k a l h e =
-        let (u, is_inverse) = prime.inverse k l h in
-        sym (Rings.add_zero R a) ∙ ap (λ n. times o n a) (sym is_inverse) ∙ sym (times_remainder (u * k) a)
+        let (u, is_inverse) = inverse_modulo p prime k l h in
+        sym (Rings.add_zero R a) ∙ ap (λ n. times o n a) (sym (ap (λ m. m % p) (mul_comm u k) ∙ is_inverse)) ∙ sym (times_remainder (u * k) a)
         ∙ Powers.times_times R u k a ∙ ap (times o u) e ∙ Powers.times_zero R u
 
     -- where the derivative is zero, a list of p + 1 coefficients has none between the first and the last

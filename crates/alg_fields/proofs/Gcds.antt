@@ -4,8 +4,10 @@ use Rattle.alg_model.specs.Coefficients.{Ops}
 use Rattle.alg_rings.specs.Laws.{RingLaws}
 use Rattle.alg_rings.proofs.Rings
 use Rattle.alg_rings.proofs.Rings.{expanded}
+use Rattle.alg_rings.proofs.Divisibility
 use Rattle.alg_divisors.proofs.Euclidean
-use Rattle.alg_divisors.proofs.Euclidean.{EuclideanLaws, Divides}
+use Rattle.alg_rings.proofs.Divisibility.{Divides}
+use Rattle.alg_divisors.proofs.Euclidean.{EuclideanLaws}
 use Rattle.alg_divisors.proofs.Gcd
 use Rattle.alg_divisors.proofs.Gcd.{Gcd, Combination, Coprime}
 use Rattle.alg_divisors.proofs.Factorization.{product}
@@ -59,15 +61,15 @@ module _ {P : Type 0} {o : Ops P} {size : P → ℕ} {Monic : P → Type 0} (E :
     coprime_to_gcds a [] h = coprime_to_one E.ring a
     coprime_to_gcds a (b ∷ rest) h =
         Gcd.coprime_product E.ring
-        (coprime_divisors E.ring (h 0 b (omega arith)) (Euclidean.divides_itself E.ring a) (gcd_of b).2.divides_second)
+        (coprime_divisors E.ring (h 0 b (omega arith)) (Divisibility.divides_itself E.ring a) (gcd_of b).2.divides_second)
         (coprime_to_gcds a rest (λ k d l. h (suc k) d (omega arith)))
 
     product_of_gcds_divides : (members : List P) → AllPairs (λ a b. Coprime o a b) members → Divides o (product o (gcds f members)) f
-    product_of_gcds_divides [] h = Euclidean.one_divides E.ring f
+    product_of_gcds_divides [] h = Divisibility.one_divides E.ring f
     product_of_gcds_divides (a ∷ rest) h =
         Gcd.coprime_product_divides E.ring
         (coprime_divisors E.ring (coprime_to_gcds a rest (λ k d l. h 0 (suc k) d (omega arith) (omega arith))) (gcd_of a).2.divides_second
-        (Euclidean.divides_itself E.ring (product o (gcds f rest))))
+        (Divisibility.divides_itself E.ring (product o (gcds f rest))))
         (gcd_of a).2.divides_first
         (product_of_gcds_divides rest (λ i j d l k. h (suc i) (suc j) d (omega arith) (omega arith)))
 
@@ -78,10 +80,10 @@ module _ {P : Type 0} {o : Ops P} {size : P → ℕ} {Monic : P → Type 0} (E :
         let G : P = product o (gcds f rest) in
         let further : Divides o f (x ⊗ c.second ⊗ a ⊗ G) =
         product_of_gcds_divided rest (x ⊗ c.second ⊗ a)
-        (Euclidean.divides_same E.ring (gather x c.second a (product o rest)) (Euclidean.divides_multiple E.ring c.second h)) in
-        Euclidean.divides_same E.ring
+        (Divisibility.divides_same E.ring (gather x c.second a (product o rest)) (Divisibility.divides_multiple E.ring c.second h)) in
+        Divisibility.divides_same E.ring
         (apart f a x G c.first c.second ∙ ap (λ t. x ⊗ (t ⊗ G)) c.identity)
-        (Euclidean.divides_sum E.ring (Euclidean.divides_product E.ring f (x ⊗ c.first ⊗ G)) further)
+        (Divisibility.divides_sum E.ring (Divisibility.divides_product E.ring f (x ⊗ c.first ⊗ G)) further)
       where
         gather : (x w a r : P) → w ⊗ (x ⊗ (a ⊗ r)) ≡ x ⊗ w ⊗ a ⊗ r
         gather x w a r = simp (expanded, E.ring)
@@ -101,6 +103,6 @@ module _ {P : Type 0} {o : Ops P} {size : P → ℕ} {Monic : P → Type 0} (E :
         → product o (gcds f members) ≡ f
     product_of_gcds m members h d =
         Euclidean.monic_unique E (product_of_gcds_divides members h)
-        (Euclidean.divides_same E.ring (E.ring.one_mul (product o (gcds f members)))
-        (product_of_gcds_divided members I (Euclidean.divides_same E.ring (sym (E.ring.one_mul (product o members))) d)))
+        (Divisibility.divides_same E.ring (E.ring.one_mul (product o (gcds f members)))
+        (product_of_gcds_divided members I (Divisibility.divides_same E.ring (sym (E.ring.one_mul (product o members))) d)))
         (monic_gcds (Euclidean.monic_not_zero E f m) members) m

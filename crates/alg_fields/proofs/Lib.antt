@@ -1,11 +1,7 @@
-pub mod Powers
-pub mod Points
 pub mod Derivatives
 pub mod Roots
 pub mod Frobenius
-pub mod Primes
 pub mod Reduction
-pub mod Modulo
 pub mod ValueMaps
 pub mod Classes
 pub mod Quotients

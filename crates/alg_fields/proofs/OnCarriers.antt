@@ -11,9 +11,9 @@ use Rattle.alg_rings.proofs.Division.{zero_from_product}
 use Rattle.alg_rings.proofs.Homomorphisms.{Homomorphism, times-map, power-map, value_at-map, trim-map, derivative-map, place-map, poly_product-map}
 use Rattle.alg_rings.proofs.Elements.{Element, value, element_ops, value_homomorphism, value_injective, values_injective, values_valid, on_valid, on_valid₂, element_laws, element_field}
 use Rattle.alg_rings.proofs.Carriers.{trimmed_elements}
-use Rattle.alg_fields.proofs.Powers
+use Rattle.alg_rings.proofs.Powers
 use Rattle.alg_fields.proofs.Frobenius
-use Rattle.alg_fields.proofs.Frobenius.{IsPrime}
+use Rattle.alg_model.specs.Coefficients.{IsPrime}
 use Rattle.alg_fields.proofs.Roots
 use Rattle.alg_fields.proofs.Roots.{linear, quotient_at}
 

@@ -8,10 +8,10 @@ use Rattle.alg_rings.specs.Laws.{RingLaws}
 use Rattle.alg_rings.proofs.Rings
 use Rattle.alg_rings.proofs.Rings.{sorted, expanded}
 use Rattle.alg_rings.proofs.Homomorphisms.{Homomorphism, times-map, power-map}
-use Rattle.alg_fields.proofs.Powers
+use Rattle.alg_rings.proofs.Powers
 use Rattle.alg_fields.proofs.Derivatives.{raw_derivative}
 use Rattle.alg_fields.proofs.Frobenius
-use Rattle.alg_fields.proofs.Frobenius.{IsPrime}
+use Rattle.alg_model.specs.Coefficients.{IsPrime}
 
 module _ {A : Type 0} (p : ℕ) (root : A → A) where
   -- the roots of the coefficients at j, j + p, j + 2 * p, ..

@@ -6,10 +6,10 @@ use Rattle.std.proofs.Common.{subst, ◌≡◌, ◌⊎◌, ◌↔◌, IsTrue, sy
 use Rattle.alg_model.specs.Coefficients.{Ops, Carrier}
 use Rattle.alg_model.specs.Fields.{IsRing, IsField}
 use Rattle.alg_rings.specs.Laws.{RingLaws}
-use Rattle.alg_divisors.proofs.Euclidean.{Divides}
+use Rattle.alg_rings.proofs.Divisibility.{Divides}
 use Rattle.alg_divisors.proofs.Gcd.{Coprime}
-use Rattle.alg_fields.proofs.Modulo
-use Rattle.alg_fields.proofs.Modulo.{Same}
+use Rattle.alg_rings.proofs.Modulo
+use Rattle.alg_rings.proofs.Modulo.{Same}
 
 pub record IsQuotient {B P : Type 0} (v : Carrier B) (o : Ops P) (f : P) (class : (x : B) → v.Valid x → P) : Type 0 where
   pub zero_valid : v.Valid v.ops.zero

@@ -1,20 +1,21 @@
 -- Taking remainders modulo a monic f over a field: it is division by f, keeps sums, products and powers, and two polynomials
 -- have one remainder exactly if f divides their difference.
-use Rattle.std.proofs.Common.{◌≡◌, ◌↔◌, ℕ, zero, suc, ◌<◌, List, [], ◌∷◌, length, replicate, ap, sym, ◌∙◌, arith}
+use Rattle.std.proofs.Common.{◌≡◌, ◌↔◌, ℕ, zero, suc, ◌<◌, List, [], ◌∷◌, length, replicate, All, ap, sym, subst, ◌∙◌, arith}
 use Rattle.alg_model.specs.Coefficients.{Ops, Carrier, power}
-use Rattle.alg_model.specs.Polynomials.{sum, trim, poly_sum, poly_product, poly_difference, poly_power}
+use Rattle.alg_model.specs.Polynomials.{sum, product, trim, poly_sum, poly_product, poly_difference, poly_power}
 use Rattle.alg_model.specs.Factors.{IsMonic, IsDivision, Divides}
 use Rattle.alg_model.specs.Values.{degree, reduced, value_ops, values}
 use Rattle.alg_model.specs.Fields.{IsField}
 use Rattle.alg_rings.specs.Laws.{IsPropositional}
 use Rattle.alg_rings.proofs.Trims
+use Rattle.alg_rings.proofs.Validity.{product_valid}
 use Rattle.alg_rings.proofs.Carriers.{poly_power_polynomial}
 use Rattle.alg_rings.proofs.Divisors.{Polynomial, polynomial_ops, same_polynomial}
 use Rattle.alg_divisors.proofs.Euclidean
 use Rattle.alg_divisors.proofs.Fields.{polynomials_euclidean}
 use Rattle.alg_divisors.proofs.Polynomials.{divides_to, divides_from}
-use Rattle.alg_fields.proofs.Modulo
-use Rattle.alg_fields.proofs.Modulo.{Same}
+use Rattle.alg_rings.proofs.Modulo
+use Rattle.alg_rings.proofs.Modulo.{Same}
 use Rattle.alg_fields.proofs.Quotients.{IsQuotient}
 use Rattle.alg_fields.proofs.Reduction.{length_reduced}
 use Rattle.alg_fields.proofs.Classes
@@ -80,18 +81,28 @@ module _ {A : Type 0} {c : Carrier A} (P : IsPropositional c) (F : IsField c) (f
       reduced_product (poly_power c.ops a.0 n, poly_power_polynomial P F.ring a.0 n a.1) a
       ∙ ap (λ w. (value_ops c.ops f.0).mul w (reduced c.ops f.0 a.0)) (reduced_power a n)
 
-  -- **`reduced` is division by f**
-  pub reduced_division : (a : Polynomial c) → (q : List A) × IsDivision c a.0 f.0 q (trim c.ops (reduced c.ops f.0 a.0))
-  reduced_division a =
-      let s : Same Q f a (polynomial_of P F f not_constant monic (reduced c.ops f.0 a.0) (reduced_value a)) = Modulo.same_back E.ring (same_as_value a) in (
+  -- **`reduced` is division by f**, also of a list that ends in zeros
+  pub list_division : (g : List A) → All c.Valid g → (q : List A) × IsDivision c (trim c.ops g) f.0 q (trim c.ops (reduced c.ops f.0 g))
+  list_division g v =
+      let w : All c.Valid (reduced c.ops f.0 g) = Classes.reduced_valid P F.ring f.0 g f.1.0 v in
+      let s : Same Q f (Classes.class_of P F.ring g v) (Classes.class_of P F.ring (reduced c.ops f.0 g) w) =
+      Classes.reduced_same P F.ring f not_constant monic g v w in (
         s.quotient.0,
         record {
           quotient = s.quotient.1;
-          remainder = (polynomial_of P F f not_constant monic (reduced c.ops f.0 a.0) (reduced_value a)).1;
-          identity = sym (ap (λ g. g.0) s.identity);
-          smaller = omega (arith, Trims.length_trim c.ops (reduced c.ops f.0 a.0), length_reduced c.ops f.0 not_constant a.0);
+          remainder = (Classes.class_of P F.ring (reduced c.ops f.0 g) w).1;
+          identity = sym (ap (λ h. h.0) s.identity);
+          smaller = omega (arith, Trims.length_trim c.ops (reduced c.ops f.0 g), length_reduced c.ops f.0 not_constant g);
         },
       )
+
+  pub reduced_division : (a : Polynomial c) → (q : List A) × IsDivision c a.0 f.0 q (trim c.ops (reduced c.ops f.0 a.0))
+  reduced_division a = subst (λ g. (q : List A) × IsDivision c g f.0 q (trim c.ops (reduced c.ops f.0 a.0))) a.1.1 (list_division a.0 a.1.0)
+
+  -- the product of two values is the remainder of their product
+  pub product_division : (a b : List A) → All c.Valid a → All c.Valid b
+      → (q : List A) × IsDivision c (poly_product c.ops a b) f.0 q (trim c.ops ((value_ops c.ops f.0).mul a b))
+  product_division a b va vb = list_division (product c.ops a b) (product_valid F.ring a b va vb)
 
   -- f divides what has remainder zero
   pub divides_iff_reduced : (a : Polynomial c) → Divides c f.0 a.0 ↔ (reduced c.ops f.0 a.0 ≡ replicate (degree f.0) c.ops.zero)

@@ -8,7 +8,7 @@ use Rattle.alg_rings.proofs.Rings
 use Rattle.alg_rings.proofs.Lists
 use Rattle.alg_rings.proofs.Trims
 use Rattle.alg_rings.proofs.Rings.{sorted, expanded}
-use Rattle.alg_fields.proofs.Points
+use Rattle.alg_rings.proofs.Points
 
 -- no product of elements that aren't zero is zero
 abbrev pub IsDomain : {A : Type 0} → Ops A → Type 0

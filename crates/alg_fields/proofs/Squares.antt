@@ -4,8 +4,9 @@ use Rattle.alg_model.specs.Coefficients.{Ops, times, power}
 use Rattle.alg_rings.specs.Laws.{RingLaws}
 use Rattle.alg_rings.proofs.Rings
 use Rattle.alg_rings.proofs.Rings.{sorted, expanded}
-use Rattle.alg_divisors.proofs.Euclidean.{EuclideanLaws, Divides, divides_same, divides_sum, divides_multiple, divides_multiple_right, divides_product_left, divides_itself, divides_trans}
-use Rattle.alg_fields.proofs.Powers
+use Rattle.alg_rings.proofs.Divisibility.{Divides, divides_same, divides_sum, divides_multiple, divides_multiple_right, divides_product_left, divides_itself, divides_trans}
+use Rattle.alg_divisors.proofs.Euclidean.{EuclideanLaws}
+use Rattle.alg_rings.proofs.Powers
 use Rattle.alg_divisors.proofs.Gcd.{Coprime, coprime_unit}
 
 abbrev pub ProductRule : {P : Type 0} → Ops P → (P → P) → Type 0

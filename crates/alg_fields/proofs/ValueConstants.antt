@@ -14,8 +14,8 @@ use Rattle.alg_rings.proofs.Elements.{Element, element_ops, value_injective}
 use Rattle.alg_rings.proofs.Divisors.{Polynomial, polynomial_ops}
 use Rattle.alg_divisors.proofs.Euclidean
 use Rattle.alg_divisors.proofs.Fields.{polynomials_euclidean}
-use Rattle.alg_fields.proofs.Modulo
-use Rattle.alg_fields.proofs.Modulo.{Same}
+use Rattle.alg_rings.proofs.Modulo
+use Rattle.alg_rings.proofs.Modulo.{Same}
 use Rattle.alg_fields.proofs.Quotients.{IsQuotient}
 use Rattle.alg_fields.proofs.Classes
 use Rattle.alg_fields.proofs.Constants.{constant, alone, constant_homomorphism}

@@ -19,12 +19,12 @@ use Rattle.alg_rings.proofs.Trims
 use Rattle.alg_rings.proofs.Validity.{sum_valid, product_valid, negatives_valid}
 use Rattle.alg_rings.proofs.Divisors.{Polynomial, polynomial_ops, same_polynomial}
 use Rattle.alg_divisors.proofs.Euclidean
-use Rattle.alg_divisors.proofs.Euclidean.{Divides}
+use Rattle.alg_rings.proofs.Divisibility.{Divides}
 use Rattle.alg_divisors.proofs.Irreducible
 use Rattle.alg_divisors.proofs.Fields.{polynomials_euclidean}
 use Rattle.alg_divisors.proofs.Polynomials.{irreducible_from}
-use Rattle.alg_fields.proofs.Modulo
-use Rattle.alg_fields.proofs.Modulo.{Same}
+use Rattle.alg_rings.proofs.Modulo
+use Rattle.alg_rings.proofs.Modulo.{Same}
 use Rattle.alg_fields.proofs.Reduction.{length_reduced}
 use Rattle.alg_fields.proofs.Classes
 use Rattle.alg_fields.proofs.Classes.{class_of}

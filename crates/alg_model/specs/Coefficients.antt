@@ -4,8 +4,9 @@
 --     mod_ops p                     the operations of the residues modulo p, on numbers
 --     Carrier A                     operations, and which of the a : A are elements
 --     residues p                    the residues modulo p: the numbers below p
+--     IsPrime p                     p is above 1 and a product of two numbers only where one of them is 1
 --     IsCharacteristic p            p is one of the characteristics 2, 3, 5, 7, 11, 13, 17, 19, 23, 29, 31
-use Rattle.std.specs.Prelude.{ℕ, zero, suc, ◌+◌, ◌-◌, ◌*◌, ◌%◌, ◌<◌, ◌==◌, Bool, List, [], ◌∷◌, Contains}
+use Rattle.std.specs.Prelude.{◌≡◌, ◌⊎◌, ℕ, zero, suc, ◌+◌, ◌-◌, ◌*◌, ◌%◌, ◌<◌, ◌==◌, Bool, List, [], ◌∷◌, Contains}
 
 pub record Ops (A : Type 0) : Type 0 where
   pub zero : A
@@ -43,6 +44,10 @@ pub record Carrier (A : Type 0) : Type 1 where
 -- the residues modulo p
 abbrev pub residues : ℕ → Carrier ℕ
 residues p = record { ops = mod_ops p; Valid = λ a. a < p }
+
+pub record IsPrime (p : ℕ) : Type 0 where
+  pub above_one : 1 < p
+  pub no_factors : (a b : ℕ) → a * b ≡ p → (a ≡ 1) ⊎ (b ≡ 1)
 
 -- the characteristics, in their order
 abbrev pub primes : List ℕ

@@ -104,6 +104,10 @@ module _ {A : Type 0} {c : Carrier A} (P : IsPropositional c) (R : IsRing c) whe
       (λ F e h z. Trims.leading_from_not_nil E L.zero_test F (trimmed_elements F e) (λ n. h (ap (map (value c)) n))
       (value_injective P _ _ (Homomorphisms.leading-map H F ∙ z))) f vf.0 vf.1
 
+  -- a constant that isn't zero is a polynomial of one coefficient
+  pub constant_trimmed : (y : A) → c.Valid y → y ≢ O → trim c.ops (y ∷ []) ≡ y ∷ []
+  constant_trimmed y v n = trimmed_from_leading (y ∷ []) (All-cons c.Valid y [] v (All-nil c.Valid)) n
+
   -- zeros from n on leave at most n coefficients
   pub length_trim_below : (f : List A) (n : ℕ) → All c.Valid f → ((k : ℕ) → n ≤ k → slice_index_or f k O ≡ O)
       → length (trim c.ops f) ≤ n

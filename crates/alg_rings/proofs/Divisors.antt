@@ -1,9 +1,9 @@
 -- Divisors of polynomials: over a ring they behave as in any ring; over a field division with remainder has one result, and d
 -- divides f exactly if the remainder is empty.
-use Rattle.std.proofs.Common.{◌≡◌, ◌≢◌, ◌⊎◌, ◌↔◌, ◌+◌, ◌<◌, ◌≤◌, List, [], ◌∷◌, map, length, refl, ap, ap₂, sym, ◌∙◌, subst, arith, inl, inr, ⊎_elim}
+use Rattle.std.proofs.Common.{◌≡◌, ◌≢◌, ◌⊎◌, ◌↔◌, ℕ, zero, suc, ◌+◌, ◌<◌, ◌≤◌, List, [], ◌∷◌, map, length, refl, ap, ap₂, sym, ◌∙◌, subst, arith, inl, inr, ⊎_elim}
 use Rattle.std.proofs.lemmas.List.{length-map}
-use Rattle.alg_model.specs.Coefficients.{Ops, Carrier}
-use Rattle.alg_model.specs.Polynomials.{trim, poly_sum, poly_negative, poly_difference, poly_product, leading}
+use Rattle.alg_model.specs.Coefficients.{Ops, Carrier, power}
+use Rattle.alg_model.specs.Polynomials.{trim, poly_sum, poly_negative, poly_difference, poly_product, poly_power, leading}
 use Rattle.alg_model.specs.Factors.{IsPolynomial, Divides, IsDivision}
 use Rattle.alg_model.specs.Fields.{IsRing, IsField}
 use Rattle.alg_rings.specs.Laws.{RingLaws, IsPropositional, polynomials}
@@ -31,6 +31,11 @@ module _ {A : Type 0} {c : Carrier A} (P : IsPropositional c) (R : IsRing c) whe
 
   pub same_polynomial : (f g : Polynomial c) → f.0 ≡ g.0 → f ≡ g
   same_polynomial f g e = value_injective (polynomials_propositional P) f g e
+
+  -- powers in the ring of polynomials
+  pub power_is : (f : Polynomial c) (n : ℕ) → (power polynomial_ops f n).0 ≡ poly_power c.ops f.0 n
+  power_is f zero = refl
+  power_is f (suc n) = ap (λ w. poly_product c.ops w f.0) (power_is f n)
 
   -- ---- divisors in a ring
   pub divides_itself : (f : List A) → IsPolynomial c f → Divides c f f

@@ -5,6 +5,7 @@ pub mod Polynomials
 pub mod Division
 pub mod Monomials
 pub mod Residues
+pub mod Primes
 pub mod ResidueFields
 pub mod Homomorphisms
 pub mod Elements
@@ -12,3 +13,8 @@ pub mod Validity
 pub mod Carriers
 pub mod Divisors
 pub mod LongDivision
+pub mod Divisibility
+pub mod Modulo
+pub mod Powers
+pub mod Points
+pub mod Order

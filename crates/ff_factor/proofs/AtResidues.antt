@@ -21,8 +21,8 @@ use Rattle.alg_divisors.specs.Factorization.{AreCoprime}
 use Rattle.alg_linear.proofs.Kernels.{independent_from_left}
 use Rattle.alg_fields.specs.Fixed.{IsFixed, less_constant}
 use Rattle.alg_fields.proofs.Derivatives.{length_derivative}
-use Rattle.alg_fields.proofs.Primes.{IsPrime-characteristic}
-use Rattle.alg_fields.proofs.Frobenius.{IsPrime}
+use Rattle.alg_rings.proofs.Primes.{characteristic_is_prime}
+use Rattle.alg_model.specs.Coefficients.{IsPrime}
 use Rattle.alg_fields.proofs.FiniteFields.{residues_characteristic}
 use Rattle.alg_fields.proofs.AtResidues.{size_at_residues}
 use Rattle.alg_fields.proofs.Certificates.{irreducible_from_certificate, fixed_splits}
@@ -43,13 +43,13 @@ module _ (p : ℕ) (h : IsCharacteristic p) where
   F = residues_field p h
 
   prime : IsPrime p
-  prime = IsPrime-characteristic p h
+  prime = characteristic_is_prime p h
 
   characteristic : times (element_ops F.ring) p (element_ops F.ring).one ≡ (element_ops F.ring).zero
   characteristic = residues_characteristic p F.ring
 
   fixed : (a : Element (residues p)) → power (element_ops F.ring) a p ≡ a
-  fixed = (size_at_residues p h).fixed
+  fixed = (size_at_residues p (characteristic_is_prime p h)).fixed
 
   -- the polynomial with the coefficients at 0, p, 2 p, .. of one with derivative zero
   pub root_is_factor : (f g : List ℕ) → IsPolynomial (residues p) f → IsPolynomial (residues p) g → IsMonic (residues p) f → 1 < length f
@@ -132,7 +132,7 @@ module _ (p : ℕ) (h : IsCharacteristic p) where
       → IsFixed (residues p) p f v
       → ((a : ℕ) → a < p → (g : List ℕ) → IsGreatestCommonDivisor (residues p) f (less_constant (mod_ops p) v a) g → length g ≤ 1) → ⊥
   some_common f v vf vv l shorter k none =
-      let (a, la, s) = fixed_splits (residues_propositional p) (residues_field p h) p (size_at_residues p h) f v vf vv (omega arith) k in
+      let (a, la, s) = fixed_splits (residues_propositional p) (residues_field p h) p (size_at_residues p (characteristic_is_prime p h)) f v vf vv (omega arith) k in
       ⊎_elim
       (λ d. absurd (omega (
         arith,
@@ -150,9 +150,9 @@ module _ (p : ℕ) (h : IsCharacteristic p) where
   kernel_gives_fixed f x v m l k =
       let P = residues_propositional p in
       let F = residues_field p h in
-      let prime = IsPrime-characteristic p h in
+      let prime = characteristic_is_prime p h in
       let characteristic = residues_characteristic p R in
-      let fixed = (size_at_residues p h).fixed in
+      let fixed = (size_at_residues p (characteristic_is_prime p h)).fixed in
       let long = length-map-range_with_len (berlekamp_column (mod_ops p) p f) 1 (degree f - 1) in
       let vx : IsColumn (residues p) (degree f - 1) x = (k.column.0 ∙ long, k.column.1) in (
         Certifying.kernel_polynomial P F p prime characteristic fixed (f, v) l m x vx,

@@ -19,10 +19,10 @@ use Rattle.alg_rings.proofs.Carriers.{trimmed_from_leading}
 use Rattle.alg_rings.proofs.Divisors.{Polynomial, polynomial_ops, same_polynomial}
 use Rattle.alg_divisors.proofs.Euclidean
 use Rattle.alg_divisors.proofs.Fields.{polynomials_euclidean}
-use Rattle.alg_fields.proofs.Powers
-use Rattle.alg_fields.proofs.Frobenius.{IsPrime}
-use Rattle.alg_fields.proofs.Modulo
-use Rattle.alg_fields.proofs.Modulo.{Same}
+use Rattle.alg_rings.proofs.Powers
+use Rattle.alg_model.specs.Coefficients.{IsPrime}
+use Rattle.alg_rings.proofs.Modulo
+use Rattle.alg_rings.proofs.Modulo.{Same}
 use Rattle.alg_fields.proofs.Classes
 use Rattle.alg_fields.proofs.Classes.{class_of}
 use Rattle.alg_fields.proofs.Constants
@@ -30,7 +30,7 @@ use Rattle.alg_fields.proofs.Constants.{constant, alone}
 use Rattle.alg_fields.proofs.Remainders
 use Rattle.alg_fields.proofs.Remainders.{reduced_value, same_as_value, reduced_from_same}
 use Rattle.alg_fields.proofs.Generator.{generator, value_at_generator}
-use Rattle.alg_fields.proofs.Certificates.{power_is}
+use Rattle.alg_rings.proofs.Divisors.{power_is}
 use Rattle.ff_factor.specs.Certificates.{berlekamp_column}
 use Rattle.ff_factor.proofs.Compositions
 use Rattle.ff_factor.proofs.Compositions.{gaps}
@@ -60,7 +60,7 @@ module _ {A : Type 0} {c : Carrier A} (P : IsPropositional c) (F : IsField c) wh
 
   -- the powers of x
   pub power_of_generator : (n : ℕ) → (power Q (generator P F.ring) n).0 ≡ poly_power c.ops (variable c.ops) n
-  power_of_generator n = power_is P F (generator P F.ring) n ∙ ap (λ w. poly_power c.ops w n) variable_polynomial.1
+  power_of_generator n = power_is P F.ring (generator P F.ring) n ∙ ap (λ w. poly_power c.ops w n) variable_polynomial.1
 
   scale_on_valid : (a : A) (xs : List A) → c.Valid a → All c.Valid xs → product c.ops (a ∷ []) xs ≡ scale c.ops a xs
   scale_on_valid a xs va v = on_valid c (λ xs. product c.ops (a ∷ []) xs ≡ scale c.ops a xs)

@@ -19,7 +19,7 @@ use Rattle.alg_rings.proofs.Carriers
 use Rattle.alg_rings.proofs.Divisors.{Polynomial}
 use Rattle.alg_linear.proofs.Columns.{same_columns, length_zero_column, zero_column_at}
 use Rattle.alg_fields.specs.Fixed.{IsFixed}
-use Rattle.alg_fields.proofs.Frobenius.{IsPrime}
+use Rattle.alg_model.specs.Coefficients.{IsPrime}
 use Rattle.alg_fields.proofs.Reduction.{zeros_at}
 use Rattle.alg_fields.proofs.Classes
 use Rattle.alg_fields.proofs.Remainders.{reduced_value}

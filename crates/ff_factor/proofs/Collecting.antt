@@ -16,7 +16,7 @@ use Rattle.alg_rings.proofs.Carriers
 use Rattle.alg_rings.proofs.Rings.{mul_one}
 use Rattle.alg_rings.proofs.Divisors.{polynomial_laws}
 use Rattle.alg_divisors.specs.Factorization.{IsFactorization}
-use Rattle.alg_divisors.proofs.Order.{order_by_total}
+use Rattle.alg_rings.proofs.Order.{order_by_total}
 use Rattle.alg_divisors.proofs.LeastFactors.{least_of_factorization}
 use Rattle.ff_poly.specs.Polynomial.{Polynomial, IsPoly}
 use Rattle.ff_factor.specs.Splitting.{Collects, AreOver, IsCofactor, coefficients_of}

@@ -7,9 +7,9 @@ use Rattle.alg_model.specs.Polynomials.{value_at}
 use Rattle.alg_rings.specs.Laws.{RingLaws}
 use Rattle.alg_rings.proofs.Rings
 use Rattle.alg_rings.proofs.Rings.{sorted, expanded}
-use Rattle.alg_fields.proofs.Powers
+use Rattle.alg_rings.proofs.Powers
 use Rattle.alg_fields.proofs.Frobenius
-use Rattle.alg_fields.proofs.Frobenius.{IsPrime}
+use Rattle.alg_model.specs.Coefficients.{IsPrime}
 
 abbrev pub gaps : {P : Type 0} → Ops P → P → P → ℕ → List P → P
 gaps o x y j [] = o.zero

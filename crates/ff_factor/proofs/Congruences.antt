@@ -18,8 +18,8 @@ use Rattle.alg_rings.proofs.Divisors.{Polynomial, polynomial_ops, same_polynomia
 use Rattle.alg_divisors.proofs.Euclidean
 use Rattle.alg_divisors.proofs.Fields.{polynomials_euclidean}
 use Rattle.alg_fields.proofs.FermatProduct.{leading_monomial}
-use Rattle.alg_fields.proofs.Modulo
-use Rattle.alg_fields.proofs.Modulo.{Same}
+use Rattle.alg_rings.proofs.Modulo
+use Rattle.alg_rings.proofs.Modulo.{Same}
 use Rattle.alg_fields.proofs.Classes.{class_of, reduced_same, reduced_valid}
 use Rattle.alg_fields.proofs.Reduction.{length_reduced}
 use Rattle.alg_fields.proofs.ValueFields.{values_ring}

@@ -11,11 +11,11 @@ use Rattle.alg_rings.specs.Laws.{IsPropositional}
 use Rattle.alg_rings.proofs.Elements.{Element, element_ops}
 use Rattle.alg_rings.proofs.Divisors.{Polynomial, polynomial_ops}
 use Rattle.alg_fields.specs.Fixed.{IsFixed}
-use Rattle.alg_fields.proofs.Frobenius.{IsPrime}
+use Rattle.alg_model.specs.Coefficients.{IsPrime}
 use Rattle.alg_fields.proofs.Derivations.{polynomial_characteristic}
 use Rattle.alg_fields.proofs.Classes.{class_of}
 use Rattle.alg_fields.proofs.Remainders.{divides_iff_reduced}
-use Rattle.alg_fields.proofs.Certificates.{power_is}
+use Rattle.alg_rings.proofs.Divisors.{power_is}
 use Rattle.ff_factor.specs.Certificates.{berlekamp_column}
 use Rattle.ff_factor.proofs.BerlekampColumns
 
@@ -34,7 +34,7 @@ module _ {A : Type 0} {c : Carrier A} (P : IsPropositional c) (F : IsField c) (p
     gap = Q.add (power Q (class_of P F.ring (a ∷ xs) v) p) (Q.neg (class_of P F.ring (a ∷ xs) v))
 
     gap_is : gap.0 ≡ poly_difference c.ops (poly_power c.ops (trim c.ops (a ∷ xs)) p) (trim c.ops (a ∷ xs))
-    gap_is = ap (λ w. poly_difference c.ops w (trim c.ops (a ∷ xs))) (power_is P F (class_of P F.ring (a ∷ xs) v) p)
+    gap_is = ap (λ w. poly_difference c.ops w (trim c.ops (a ∷ xs))) (power_is P F.ring (class_of P F.ring (a ∷ xs) v) p)
 
     pub fixed_from_combination : sent ≡ zero_column c.ops (degree f.0) → IsFixed c p f.0 (trim c.ops (a ∷ xs))
     fixed_from_combination e = subst (Divides c f.0) gap_is ((divides_iff_reduced P F f not_constant monic gap).1

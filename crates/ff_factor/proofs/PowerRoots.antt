@@ -17,7 +17,7 @@ use Rattle.alg_rings.proofs.Elements.{Element, value, element_ops, elements, ele
 use Rattle.alg_rings.proofs.Divisors.{Polynomial, polynomial_ops, polynomial_laws, same_polynomial}
 use Rattle.alg_divisors.proofs.Polynomials.{divides_to}
 use Rattle.alg_fields.proofs.OnCarriers
-use Rattle.alg_fields.proofs.Frobenius.{IsPrime}
+use Rattle.alg_model.specs.Coefficients.{IsPrime}
 use Rattle.alg_fields.proofs.Derivatives
 use Rattle.alg_fields.proofs.Derivatives.{raw_derivative}
 use Rattle.alg_fields.proofs.PowerRoots

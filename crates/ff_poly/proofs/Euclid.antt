@@ -15,7 +15,7 @@ use Rattle.alg_rings.proofs.Carriers.{trim_polynomial, poly_product_polynomial, 
 use Rattle.alg_rings.proofs.Elements.{value, element_laws}
 use Rattle.alg_rings.proofs.Validity.{leading_valid}
 use Rattle.alg_rings.proofs.Divisors.{Polynomial, polynomial_ops, polynomial_laws, same_polynomial, divides_nil, divides_sum, divides_product, divides_difference, divides_transitive, divides_multiple, length_poly_product, leading_poly_product}
-use Rattle.alg_divisors.proofs.Fields.{constant_trimmed, leading_not_zero}
+use Rattle.alg_rings.proofs.Carriers.{constant_trimmed, leading_not_zero}
 
 -- u * a + w * b = g
 pub record Combines {A : Type 0} (o : Ops A) (a b u w g : List A) : Type 0 where
@@ -157,7 +157,7 @@ module _ {A : Type 0} {c : Carrier A} (P : IsPropositional c) (F : IsField c) wh
         ∙ ap (value c) (Rings.mul_zero (element_laws P F.ring) (leading c.ops g, vl)))
 
     k_is : k ≡ i ∷ []
-    k_is = constant ∙ constant_trimmed P F i vi i_not_zero
+    k_is = constant ∙ constant_trimmed P F.ring i vi i_not_zero
 
     one_place : (x : A) → c.Valid x → IsPolynomial c (trim c.ops (x ∷ []))
     one_place x v = trim_polynomial P F.ring (x ∷ []) (All-cons c.Valid x [] v (All-nil c.Valid))
@@ -170,7 +170,7 @@ module _ {A : Type 0} {c : Carrier A} (P : IsPropositional c) (F : IsField c) wh
         ∙ F.ring.mul_comm i (leading c.ops g) vi vl ∙ inverse
 
     inverse_is : trim c.ops (leading c.ops g ∷ []) ≡ leading c.ops g ∷ []
-    inverse_is = constant_trimmed P F (leading c.ops g) vl (leading_not_zero P F g vg not_zero)
+    inverse_is = constant_trimmed P F.ring (leading c.ops g) vl (leading_not_zero P F.ring g vg not_zero)
 
     unit : poly_product c.ops (leading c.ops g ∷ []) k ≡ trim c.ops (c.ops.one ∷ [])
     unit = ap (poly_product c.ops (leading c.ops g ∷ [])) k_is ∙ ap (λ w. trim c.ops (w ∷ [])) inverse

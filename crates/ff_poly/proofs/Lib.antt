@@ -1,5 +1,4 @@
 pub mod Characteristics
-pub mod Orders
 pub mod ListPlaces
 pub mod Convolutions
 pub mod Quotients

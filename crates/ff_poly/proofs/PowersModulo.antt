@@ -6,9 +6,9 @@ use Rattle.alg_model.specs.Factors.{IsPolynomial, IsDivision}
 use Rattle.alg_model.specs.Fields.{IsField}
 use Rattle.alg_rings.specs.Laws.{RingLaws, IsPropositional}
 use Rattle.alg_rings.proofs.Divisors.{Polynomial, polynomial_ops, polynomial_laws, same_polynomial}
-use Rattle.alg_fields.proofs.Modulo.{Same, same_itself, same_from_equal, same_trans, same_product, same_power}
-use Rattle.alg_fields.proofs.Powers.{power_add}
-use Rattle.alg_fields.proofs.Certificates.{power_is}
+use Rattle.alg_rings.proofs.Modulo.{Same, same_itself, same_from_equal, same_trans, same_product, same_power}
+use Rattle.alg_rings.proofs.Powers.{power_add}
+use Rattle.alg_rings.proofs.Divisors.{power_is}
 
 -- r is the remainder of a by f
 abbrev pub Leaves : {A : Type 0} → Carrier A → List A → List A → List A → Type 0
@@ -46,9 +46,9 @@ module _ {A : Type 0} {c : Carrier A} (P : IsPropositional c) (F : IsField c) wh
       let root : Polynomial c = (r, D.1.remainder) in
       leaves_from (power Q x n) y (s, S.1.remainder) (poly_power c.ops a n)
       (same_trans L (same_from_equal L (ap (power Q x) e ∙ power_add L x h h))
-      (same_trans L (same_product L (same_from (power Q x h) y (poly_power c.ops a h) r D (power_is P F x h)) (same_from (power Q x h) y (poly_power c.ops a h) r D (power_is P F x h)))
+      (same_trans L (same_product L (same_from (power Q x h) y (poly_power c.ops a h) r D (power_is P F.ring x h)) (same_from (power Q x h) y (poly_power c.ops a h) r D (power_is P F.ring x h)))
       (same_from (Q.mul root root) y (poly_product c.ops r r) s S refl)))
-      S.1.smaller (power_is P F x n)
+      S.1.smaller (power_is P F.ring x n)
 
   -- from a^n to a^(n + 1)
   pub next_leaves : (a f s t : List A) (n m : ℕ) → IsPolynomial c a → IsPolynomial c f → m ≡ n + 1
@@ -59,9 +59,9 @@ module _ {A : Type 0} {c : Carrier A} (P : IsPropositional c) (F : IsField c) wh
       let known : Polynomial c = (s, D.1.remainder) in
       leaves_from (power Q x m) y (t, T.1.remainder) (poly_power c.ops a m)
       (same_trans L (same_from_equal L (ap (power Q x) (e ∙ add-one n)))
-      (same_trans L (same_product L (same_from (power Q x n) y (poly_power c.ops a n) s D (power_is P F x n)) (same_itself L y x))
+      (same_trans L (same_product L (same_from (power Q x n) y (poly_power c.ops a n) s D (power_is P F.ring x n)) (same_itself L y x))
       (same_from (Q.mul known x) y (poly_product c.ops s a) t T refl)))
-      T.1.smaller (power_is P F x m)
+      T.1.smaller (power_is P F.ring x m)
 
   -- the power of a remainder leaves what the power leaves
   pub power_leaves : (a f b r : List A) (n : ℕ) → IsPolynomial c a → IsPolynomial c f
@@ -71,5 +71,5 @@ module _ {A : Type 0} {c : Carrier A} (P : IsPropositional c) (F : IsField c) wh
       let y : Polynomial c = (f, vf) in
       let z : Polynomial c = (b, D.1.remainder) in
       leaves_from (power Q x n) y (r, T.1.remainder) (poly_power c.ops a n)
-      (same_trans L (same_power L (same_from x y a b D refl) n) (same_from (power Q z n) y (poly_power c.ops b n) r T (power_is P F z n)))
-      T.1.smaller (power_is P F x n)
+      (same_trans L (same_power L (same_from x y a b D refl) n) (same_from (power Q z n) y (poly_power c.ops b n) r T (power_is P F.ring z n)))
+      T.1.smaller (power_is P F.ring x n)

@@ -1,14 +1,18 @@
 use Rattle.alg_model.specs.Coefficients.{mod_ops}
-use Rattle.alg_rings.proofs.ResidueFields.{residues_field, residues_propositional}
+use Rattle.alg_rings.proofs.ResidueFields.{prime_residues_field, residues_propositional}
 use Rattle.alg_fields.proofs.Reduction.{length_reduced}
-use Rattle.alg_fields.proofs.Remainders.{reduced_division, reduced_power}
+use Rattle.alg_fields.proofs.Remainders.{reduced_division, reduced_power, product_division}
 use Rattle.alg_fields.proofs.reduced_is_remainder.Goals as goal
 
 pub returns-clause-division : goal.returns-clause-division
-returns-clause-division c = λ p h f g vf m l vg. reduced_division (residues_propositional p) (residues_field p h) (f, vf) l m (g, vg)
+returns-clause-division c = λ p h f g vf m l vg. reduced_division (residues_propositional p) (prime_residues_field p h) (f, vf) l m (g, vg)
 
 pub returns-clause-places : goal.returns-clause-places
 returns-clause-places c = λ p h f g l. length_reduced (mod_ops p) f l g
 
 pub returns-clause-powers : goal.returns-clause-powers
-returns-clause-powers c = λ p h f g vf m l vg. reduced_power (residues_propositional p) (residues_field p h) (f, vf) l m (g, vg)
+returns-clause-powers c = λ p h f g vf m l vg. reduced_power (residues_propositional p) (prime_residues_field p h) (f, vf) l m (g, vg)
+
+pub returns-clause-products : goal.returns-clause-products
+returns-clause-products c = λ p h f a b vf m l va vb.
+    product_division (residues_propositional p) (prime_residues_field p h) (f, vf) l m a b va.0 vb.0

@@ -5,7 +5,7 @@ use Rattle.alg_model.specs.Coefficients.{Ops, power}
 use Rattle.alg_rings.specs.Laws.{RingLaws}
 use Rattle.alg_rings.proofs.Rings
 use Rattle.alg_rings.proofs.Rings.{expanded}
-use Rattle.alg_divisors.proofs.Euclidean.{Divides, divides_same, divides_sum, divides_product}
+use Rattle.alg_rings.proofs.Divisibility.{Divides, divides_same, divides_sum, divides_product}
 
 pub record Same {P : Type 0} (o : Ops P) (f a b : P) : Type 0 where
   pub quotient : P
