@@ -5,18 +5,20 @@
 
 ghost use Rattle.std.specs.Prelude.{◌≡◌};
 
-mod arithmetic;
+mod derivatives;
 mod division;
 mod divisors;
+mod evaluation;
 mod places;
 mod polynomials;
 mod powers;
+mod primes;
 mod products;
+mod sums;
 #[cfg(test)]
 mod tests;
-mod values;
 
-pub use arithmetic::{CHARACTERISTICS, Prime};
+pub use primes::{CHARACTERISTICS, Prime};
 pub use divisors::Bezout;
 pub use polynomials::Poly;
 

@@ -7,7 +7,7 @@ use Rattle.alg_fields.proofs.certificate_is_exact.Goals as goal
 
 pub returns-clause-irreducible : goal.returns-clause-irreducible
 returns-clause-irreducible c = λ p h f. irreducible_from_certificate (residues_propositional p) (prime_residues_field p h) p f
-    h.above_one
+    (omega (arith, h.above_one))
 
 pub returns-clause-certified : goal.returns-clause-certified
 returns-clause-certified c = λ p h. certificate_of_irreducible (residues_propositional p) (prime_residues_field p h) p (size_at_residues p h) p 0

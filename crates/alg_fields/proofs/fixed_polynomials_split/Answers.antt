@@ -9,4 +9,4 @@ returns-clause-splits c = λ p h. fixed_splits (residues_propositional p) (prime
 
 pub returns-clause-exists : goal.returns-clause-exists
 returns-clause-exists c = λ p h f g k. fixed_from_factors (residues_propositional p) (prime_residues_field p h) p f g k
-    h.above_one
+    (omega (arith, h.above_one))

@@ -1,6 +1,6 @@
 use Rattle.std.proofs.Common.{◌≡◌, ℕ, ◌+◌, ◌*◌, ◌<◌, ◌≤◌, length, slice_index}
 use Rattle.ff_poly.specs.declared.TheConstants.{MAX_POLY}
-use Rattle.ff_poly.proofs.values.derivative_places.Given as goal
+use Rattle.ff_poly.proofs.derivatives.derivative_places.Given as goal
 
 abbrev pub invariant-loop-k : goal.invariant-loop-k
 invariant-loop-k l = record {
