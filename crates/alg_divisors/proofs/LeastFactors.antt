@@ -13,9 +13,9 @@ use Rattle.alg_rings.proofs.Divisors.{Polynomial, polynomial_ops, divided_is_pol
 use Rattle.alg_divisors.specs.Factorization.{IsFactorization}
 use Rattle.alg_divisors.proofs.Factorization
 use Rattle.alg_divisors.proofs.Least
-use Rattle.alg_rings.proofs.Order.{order_by_total, order_by_same, order_by_shorter, order_by_not_longer}
-use Rattle.alg_divisors.proofs.Fields.{polynomials_euclidean}
-use Rattle.alg_divisors.proofs.Polynomials.{Members, members_of_factorization, product_of_members, proper_to, proper_from, irreducible_to}
+use Rattle.alg_rings.proofs.PolynomialOrder.{order_by_total, order_by_same, order_by_shorter, order_by_not_longer}
+use Rattle.alg_divisors.proofs.EuclideanPolynomials.{polynomials_euclidean}
+use Rattle.alg_divisors.proofs.PolynomialFactors.{Members, members_of_factorization, product_of_members, proper_to, proper_from, irreducible_to}
 
 -- members of a list and of its image
 pub contains-map : {X Y : Type 0} (f : X → Y) (xs : List X) (x : X) → Contains xs x → Contains (map f xs) (f x)

@@ -4,8 +4,8 @@ pub mod Irreducible
 pub mod Factorization
 pub mod Least
 pub mod Decisions
-pub mod Fields
-pub mod Polynomials
+pub mod EuclideanPolynomials
+pub mod PolynomialFactors
 pub mod LeastFactors
 pub mod Finite
 pub mod Existence

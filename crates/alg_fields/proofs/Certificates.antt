@@ -20,8 +20,8 @@ use Rattle.alg_divisors.proofs.Euclidean
 use Rattle.alg_divisors.proofs.Gcd
 use Rattle.alg_divisors.proofs.Irreducible
 use Rattle.alg_divisors.proofs.Factorization
-use Rattle.alg_divisors.proofs.Fields.{polynomials_euclidean}
-use Rattle.alg_divisors.proofs.Polynomials.{divides_to, divides_from, combination_to, combination_from, proper_to, irreducible_to, irreducible_from, gcd_to, gcd_unique, product_of-map}
+use Rattle.alg_divisors.proofs.EuclideanPolynomials.{polynomials_euclidean}
+use Rattle.alg_divisors.proofs.PolynomialFactors.{divides_to, divides_from, combination_to, combination_from, proper_to, irreducible_to, irreducible_from, gcd_to, gcd_unique, product_of-map}
 use Rattle.alg_fields.specs.Fixed.{IsFixed, less_constant, IsCertified}
 use Rattle.alg_rings.proofs.Modulo
 use Rattle.alg_rings.proofs.Modulo.{Same}

@@ -7,7 +7,7 @@ use Rattle.alg_model.specs.Fields.{IsRing}
 use Rattle.alg_rings.specs.Laws.{IsPropositional}
 use Rattle.alg_rings.proofs.Trims
 use Rattle.alg_rings.proofs.Homomorphisms.{Homomorphism}
-use Rattle.alg_rings.proofs.Elements.{Element, element_ops, value_injective}
+use Rattle.alg_rings.proofs.Elements.{Element, element_ops, underlying_injective}
 use Rattle.alg_rings.proofs.Divisors.{Polynomial, polynomial_ops, same_polynomial}
 use Rattle.alg_fields.proofs.Classes
 use Rattle.alg_fields.proofs.Classes.{class_of}
@@ -42,7 +42,7 @@ module _ {A : Type 0} {c : Carrier A} (P : IsPropositional c) (R : IsRing c) whe
   pub constant_injective : (a b : Element c) → constant a ≡ constant b → a ≡ b
   constant_injective a b e =
       let same : a.0 ∷ [] ≡ b.0 ∷ [] = Classes.same_from_class P R (a.0 ∷ []) (b.0 ∷ []) (alone a) (alone b) refl e in
-      value_injective P a b (cc)
+      underlying_injective P a b (cc)
 
   pub length_constant : (a : Element c) → length (constant a).0 ≤ 1
   length_constant a = Trims.length_trim c.ops (a.0 ∷ [])

@@ -2,12 +2,12 @@
 -- where each element has a root p.
 use Rattle.std.proofs.Common.{◌≡◌, ℕ, ◌<◌, List, [], ◌∷◌, map, refl, ap, ap₂, sym, ◌∙◌, arith}
 use Rattle.alg_model.specs.Coefficients.{Ops, Carrier, times, power}
-use Rattle.alg_model.specs.Polynomials.{poly_sum, poly_product, derivative, value_at}
+use Rattle.alg_model.specs.Polynomials.{poly_sum, poly_product, derivative, evaluate}
 use Rattle.alg_model.specs.Fields.{IsRing}
 use Rattle.alg_rings.specs.Laws.{RingLaws, IsPropositional}
 use Rattle.alg_rings.proofs.Homomorphisms.{Homomorphism, poly_sum-map, poly_product-map, derivative-map}
-use Rattle.alg_rings.proofs.Elements.{Element, value, element_ops, value_homomorphism, on_valid₂, element_laws, elements, elements_are}
-use Rattle.alg_rings.proofs.Carriers.{derivative_polynomial}
+use Rattle.alg_rings.proofs.Elements.{Element, underlying, element_ops, underlying_homomorphism, on_valid₂, element_laws, elements, elements_are}
+use Rattle.alg_rings.proofs.CarrierPolynomials.{derivative_polynomial}
 use Rattle.alg_rings.proofs.Divisors.{Polynomial, polynomial_ops, polynomial_laws, same_polynomial}
 use Rattle.alg_fields.proofs.Derivatives
 use Rattle.alg_fields.proofs.Derivatives.{raw_derivative}
@@ -32,8 +32,8 @@ module _ {A : Type 0} {c : Carrier A} (P : IsPropositional c) (R : IsRing c) whe
   abbrev Q : Ops (Polynomial c)
   Q = polynomial_ops P R
 
-  abbrev H : Homomorphism (element_ops R) c.ops (value c)
-  H = value_homomorphism R
+  abbrev H : Homomorphism (element_ops R) c.ops (underlying c)
+  H = underlying_homomorphism R
 
   abbrev pub derivative_of : Polynomial c → Polynomial c
   derivative_of f = (derivative c.ops f.0, derivative_polynomial P R f.0 f.1)
@@ -43,22 +43,22 @@ module _ {A : Type 0} {c : Carrier A} (P : IsPropositional c) (R : IsRing c) whe
       (on_valid₂ c (λ f g. derivative c.ops (poly_product c.ops f g)
       ≡ poly_sum c.ops (poly_product c.ops (derivative c.ops f) g) (poly_product c.ops f (derivative c.ops g))) at f.0 g.0 f.1.0 g.1.0)
     where
-      at : (F G : List (Element c)) → derivative c.ops (poly_product c.ops (map (value c) F) (map (value c) G))
-          ≡ poly_sum c.ops (poly_product c.ops (derivative c.ops (map (value c) F)) (map (value c) G))
-          (poly_product c.ops (map (value c) F) (derivative c.ops (map (value c) G)))
+      at : (F G : List (Element c)) → derivative c.ops (poly_product c.ops (map (underlying c) F) (map (underlying c) G))
+          ≡ poly_sum c.ops (poly_product c.ops (derivative c.ops (map (underlying c) F)) (map (underlying c) G))
+          (poly_product c.ops (map (underlying c) F) (derivative c.ops (map (underlying c) G)))
       at F G =
           ap (derivative c.ops) (sym (poly_product-map H F G)) ∙ sym (derivative-map H (poly_product E F G))
-          ∙ ap (map (value c)) (Derivatives.derivative_of_product L F G)
+          ∙ ap (map (underlying c)) (Derivatives.derivative_of_product L F G)
           ∙ poly_sum-map H (poly_product E (derivative E F) G) (poly_product E F (derivative E G))
           ∙ ap₂ (poly_sum c.ops)
-          (poly_product-map H (derivative E F) G ∙ ap (λ d. poly_product c.ops d (map (value c) G)) (derivative-map H F))
-          (poly_product-map H F (derivative E G) ∙ ap (poly_product c.ops (map (value c) F)) (derivative-map H G))
+          (poly_product-map H (derivative E F) G ∙ ap (λ d. poly_product c.ops d (map (underlying c) G)) (derivative-map H F))
+          (poly_product-map H F (derivative E G) ∙ ap (poly_product c.ops (map (underlying c) F)) (derivative-map H G))
 
   elements_derivative : (f : Polynomial c) → derivative_of f ≡ Q.zero → derivative E (elements c f.0 f.1.0) ≡ []
   elements_derivative f e = nil_from_map (derivative E (elements c f.0 f.1.0))
       (derivative-map H (elements c f.0 f.1.0) ∙ ap (derivative c.ops) (elements_are c f.0 f.1.0) ∙ ap (λ g. g.0) e)
     where
-      nil_from_map : (F : List (Element c)) → map (value c) F ≡ [] → F ≡ []
+      nil_from_map : (F : List (Element c)) → map (underlying c) F ≡ [] → F ≡ []
       nil_from_map [] e = refl
       nil_from_map (a ∷ F) e = cc
 
@@ -71,7 +71,7 @@ module _ {A : Type 0} {c : Carrier A} (P : IsPropositional c) (R : IsRing c) whe
         → (f : Polynomial c) → derivative_of f ≡ Q.zero → (g : Polynomial c) × (power Q g p ≡ f)
     root_from_derivative root rooted f e =
         let F : List (Element c) = elements c f.0 f.1.0 in (
-          value_at Q (map (constant P R) (every p root 0 F)) (generator P R),
+          evaluate Q (map (constant P R) (every p root 0 F)) (generator P R),
           sym (PowerRoots.power_from_derivative L (polynomial_laws P R) (constant_homomorphism P R) p prime characteristic root rooted (generator P R) F
               (λ i. Trims.places_of_trim E L.zero_test (raw_derivative E F) []
               (sym (Derivatives.derivative_is_trimmed L F) ∙ elements_derivative f e) i))

@@ -1,14 +1,14 @@
 -- In a ring without zero divisors: v^q - v is the product of v - a over q distinct elements a with a^q = a.
 use Rattle.std.proofs.Common.{slice_index_or, ◌≡◌, ◌≢◌, ℕ, zero, suc, ◌<◌, List, [], ◌∷◌, length, All, AllPairs, refl, ap, ap₂, sym, ◌∙◌, arith}
 use Rattle.alg_model.specs.Coefficients.{Ops, power}
-use Rattle.alg_model.specs.Polynomials.{sum, scale, leading, value_at}
+use Rattle.alg_model.specs.Polynomials.{sum, scale, leading, evaluate}
 use Rattle.alg_rings.specs.Laws.{RingLaws}
 use Rattle.alg_rings.proofs.Rings
 use Rattle.alg_rings.proofs.Lists
 use Rattle.alg_rings.proofs.Trims
 use Rattle.alg_rings.proofs.Monomials.{monomial}
 use Rattle.alg_divisors.proofs.Factorization
-use Rattle.alg_rings.proofs.Points
+use Rattle.alg_rings.proofs.Evaluation
 use Rattle.alg_fields.proofs.Roots
 use Rattle.alg_fields.proofs.Roots.{IsDomain, linear, linear_product}
 use Rattle.alg_fields.proofs.Berlekamp.{differences}
@@ -38,25 +38,25 @@ module _ {A : Type 0} {o : Ops A} (R : RingLaws o) where
 
   infixl 60 ◌⊕◌
   infixl 70 ◌⊗◌
-  pub value_of_monomial : (t : A) (n : ℕ) (a : A) → value_at o (monomial o t n) a ≡ t ⊗ power o a n
-  value_of_monomial t zero a = Points.value_of_constant R t a ∙ sym (Rings.mul_one R t)
+  pub value_of_monomial : (t : A) (n : ℕ) (a : A) → evaluate o (monomial o t n) a ≡ t ⊗ power o a n
+  value_of_monomial t zero a = Evaluation.value_of_constant R t a ∙ sym (Rings.mul_one R t)
   value_of_monomial t (suc n) a =
-      R.zero_add (a ⊗ value_at o (monomial o t n) a) ∙ ap (λ w. a ⊗ w) (value_of_monomial t n a)
+      R.zero_add (a ⊗ evaluate o (monomial o t n) a) ∙ ap (λ w. a ⊗ w) (value_of_monomial t n a)
       ∙ R.mul_comm a (t ⊗ power o a n) ∙ R.mul_assoc t (power o a n) a
 
-  pub value_of_fixing : (n : ℕ) (a : A) → value_at o (fixing o n) a ≡ power o a n ⊕ neg a
+  pub value_of_fixing : (n : ℕ) (a : A) → evaluate o (fixing o n) a ≡ power o a n ⊕ neg a
   value_of_fixing n a =
-      Points.value_of_sum R (O ∷ neg I ∷ []) (monomial o o.one n) a
+      Evaluation.value_of_sum R (O ∷ neg I ∷ []) (monomial o o.one n) a
       ∙ ap₂ ◌⊕◌
-      (R.zero_add (a ⊗ value_at o (neg I ∷ []) a) ∙ ap (λ w. a ⊗ w) (Points.value_of_constant R (neg I) a)
+      (R.zero_add (a ⊗ evaluate o (neg I ∷ []) a) ∙ ap (λ w. a ⊗ w) (Evaluation.value_of_constant R (neg I) a)
       ∙ Rings.mul_neg R a I ∙ ap neg (Rings.mul_one R a))
       (value_of_monomial I n a ∙ R.one_mul (power o a n))
       ∙ R.add_comm (neg a) (power o a n)
 
-  pub value_of_linear_product : (roots : List A) (v : A) → value_at o (linear_product o roots) v ≡ Factorization.product o (differences o v roots)
-  value_of_linear_product [] v = Points.value_of_constant R I v
+  pub value_of_linear_product : (roots : List A) (v : A) → evaluate o (linear_product o roots) v ≡ Factorization.product o (differences o v roots)
+  value_of_linear_product [] v = Evaluation.value_of_constant R I v
   value_of_linear_product (a ∷ roots) v =
-      Points.value_of_product R (linear o a) (linear_product o roots) v
+      Evaluation.value_of_product R (linear o a) (linear_product o roots) v
       ∙ ap₂ ◌⊗◌ (Roots.value_of_linear R a v) (value_of_linear_product roots v)
 
   -- **v^q - v = product of v - a**
@@ -64,9 +64,9 @@ module _ {A : Type 0} {o : Ops A} (R : RingLaws o) where
       → All (λ a. power o a q ≡ a) roots → (v : A) → Factorization.product o (differences o v roots) ≡ power o v q ⊕ neg v
   fermat_product domain q l roots e d fixed v =
       sym (value_of_linear_product roots v)
-      ∙ ap (λ g. value_at o g v) (sym (Roots.split_at_roots R domain (fixing o q) roots (length_fixing o q l ∙ ap suc (sym e)) d zeros
+      ∙ ap (λ g. evaluate o g v) (sym (Roots.split_at_roots R domain (fixing o q) roots (length_fixing o q l ∙ ap suc (sym e)) d zeros
       ∙ ap (λ c. scale o c (linear_product o roots)) (leading_fixing o q l) ∙ Lists.scale_one R (linear_product o roots)))
       ∙ value_of_fixing q v
     where
-      zeros : All (λ a. value_at o (fixing o q) a ≡ O) roots
+      zeros : All (λ a. evaluate o (fixing o q) a ≡ O) roots
       zeros k c h = value_of_fixing q (slice_index_or roots k c) ∙ ap (λ w. w ⊕ neg (slice_index_or roots k c)) (fixed k c h) ∙ R.add_neg (slice_index_or roots k c)

@@ -7,7 +7,7 @@ use native.Mathlib.Nat.{add-mod-mod, mod_self}
 use Rattle.alg_model.specs.Coefficients.{Ops, Carrier, times, power, residues}
 use Rattle.alg_model.specs.Fields.{IsRing}
 use Rattle.alg_rings.proofs.ResidueFields.{residues_propositional}
-use Rattle.alg_rings.proofs.Elements.{Element, element_ops, element_laws, value_injective}
+use Rattle.alg_rings.proofs.Elements.{Element, element_ops, element_laws, underlying_injective}
 use Rattle.alg_fields.proofs.Frobenius
 use Rattle.alg_model.specs.Coefficients.{IsPrime}
 
@@ -47,7 +47,7 @@ residues_below_contain : (p n : ℕ) (h : n ≤ p) (a : Element (residues p)) �
 unfolding residues_below
 residues_below_contain p zero h a l = absurd (omega arith)
 residues_below_contain p (suc n) h a l = ⊎_elim
-    (λ e. (0, omega arith, value_injective (residues_propositional p) (n, h) a (sym e)))
+    (λ e. (0, omega arith, underlying_injective (residues_propositional p) (n, h) a (sym e)))
     (λ k. Contains-append_right ((n, h) ∷ []) (residues_below p n (le_of_lt h)) a (residues_below_contain p n (le_of_lt h) a k))
     (eq-or-lt_of_le (let j : a.0 ≤ n = omega arith in j))
 
@@ -63,10 +63,10 @@ module _ (p : ℕ) (R : IsRing (residues p)) where
 
   -- p times one is zero
   pub residues_characteristic : times (element_ops R) p (element_ops R).one ≡ (element_ops R).zero
-  residues_characteristic = value_injective (residues_propositional p) (times E p E.one) E.zero (times_one_residue p ∙ mod_self p)
+  residues_characteristic = underlying_injective (residues_propositional p) (times E p E.one) E.zero (times_one_residue p ∙ mod_self p)
 
   multiple_of_one : (a : Element (residues p)) → times E a.0 E.one ≡ a
-  multiple_of_one a = value_injective (residues_propositional p) (times E a.0 E.one) a (times_one_residue a.0 ∙ mod-eq_of_lt a.1)
+  multiple_of_one a = underlying_injective (residues_propositional p) (times E a.0 E.one) a (times_one_residue a.0 ∙ mod-eq_of_lt a.1)
 
   -- **Fermat**: a^p = a
   pub fermat : IsPrime p → (a : Element (residues p)) → power (element_ops R) a p ≡ a

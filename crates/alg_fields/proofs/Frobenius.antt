@@ -2,14 +2,14 @@
 use Rattle.std.proofs.Common.{◌≡◌, ◌≢◌, ◌↔◌, ⊎_elim, mod-lt, eq-zero-or-pos, pos_of_ne-zero, ◌^◌, ◌<◌, ℕ, zero, suc, ◌+◌, ◌*◌, ◌/◌, ◌%◌, ◌<◌, List, [], ◌∷◌, length, slice_index_or, pred, refl, ap, ap₂, sym, ◌∙◌, arith, mul_comm}
 use Rattle.std.proofs.Math.Nat.{zero-mod, div-add-mod, pow-zero, pow-suc}
 use Rattle.alg_model.specs.Coefficients.{Ops, times, power, IsPrime}
-use Rattle.alg_model.specs.Polynomials.{sum, scale, shift, product, leading, derivative, value_at}
+use Rattle.alg_model.specs.Polynomials.{sum, scale, shift, product, leading, derivative, evaluate}
 use Rattle.alg_rings.specs.Laws.{RingLaws}
 use Rattle.alg_rings.proofs.Rings
 use Rattle.alg_rings.proofs.Lists
 use Rattle.alg_rings.proofs.Rings.{sorted, expanded}
 use Rattle.alg_rings.proofs.Primes.{inverse_modulo}
 use Rattle.alg_rings.proofs.Powers
-use Rattle.alg_rings.proofs.Points
+use Rattle.alg_rings.proofs.Evaluation
 use Rattle.alg_rings.proofs.Trims
 use Rattle.alg_rings.proofs.Division
 use Rattle.alg_fields.proofs.Derivatives
@@ -26,11 +26,11 @@ module _ {A : Type 0} {o : Ops A} (R : RingLaws o) where
   powers_of_sum a b (suc n) = product o (powers_of_sum a b n) (b ∷ a ∷ [])
 
   module _ (a b : A) where
-    value_of_powers : (c : A) (n : ℕ) → value_at o (powers_of_sum a b n) c ≡ power o (b ⊕ c ⊗ a) n
-    value_of_powers c zero = Points.value_of_constant R I c
+    value_of_powers : (c : A) (n : ℕ) → evaluate o (powers_of_sum a b n) c ≡ power o (b ⊕ c ⊗ a) n
+    value_of_powers c zero = Evaluation.value_of_constant R I c
     value_of_powers c (suc n) =
-        Points.value_of_product R (powers_of_sum a b n) (b ∷ a ∷ []) c
-        ∙ ap₂ ◌⊗◌ (value_of_powers c n) (ap (λ w. b ⊕ c ⊗ w) (Points.value_of_constant R a c))
+        Evaluation.value_of_product R (powers_of_sum a b n) (b ∷ a ∷ []) c
+        ∙ ap₂ ◌⊗◌ (value_of_powers c n) (ap (λ w. b ⊕ c ⊗ w) (Evaluation.value_of_constant R a c))
 
     derivative_of_powers : (n : ℕ) → raw_derivative o (powers_of_sum a b (suc n)) ≡ scale o (times o (suc n) a) (powers_of_sum a b n)
     derivative_of_powers zero =
@@ -73,11 +73,11 @@ module _ {A : Type 0} {o : Ops A} (R : RingLaws o) where
         ∙ ap (λ w. a ⊗ w) (leading_of_powers n) ∙ R.mul_comm a (power o a n)
 
   -- where all places but the last are zero
-  value_of_last : (f : List A) → ((k : ℕ) → suc k < length f → slice_index_or f k O ≡ O) → value_at o f I ≡ leading o f
+  value_of_last : (f : List A) → ((k : ℕ) → suc k < length f → slice_index_or f k O ≡ O) → evaluate o f I ≡ leading o f
   value_of_last [] h = refl
-  value_of_last (x ∷ []) h = Points.value_of_constant R x I
+  value_of_last (x ∷ []) h = Evaluation.value_of_constant R x I
   value_of_last (x ∷ y ∷ ys) h =
-      ap₂ ◌⊕◌ (h 0 (omega arith)) (R.one_mul (value_at o (y ∷ ys) I) ∙ value_of_last (y ∷ ys) (λ k l. h (suc k) (omega arith)))
+      ap₂ ◌⊕◌ (h 0 (omega arith)) (R.one_mul (evaluate o (y ∷ ys) I) ∙ value_of_last (y ∷ ys) (λ k l. h (suc k) (omega arith)))
       ∙ R.zero_add (leading o (y ∷ ys))
 
   module _ (p : ℕ) (prime : IsPrime p) (characteristic : times o p I ≡ O) where
@@ -101,18 +101,18 @@ module _ {A : Type 0} {o : Ops A} (R : RingLaws o) where
 
     -- where the derivative is zero, a list of p + 1 coefficients has none between the first and the last
     value_of_ends : (f : List A) → length f ≡ suc p → ((k : ℕ) → slice_index_or (raw_derivative o f) k O ≡ O)
-        → value_at o f I ≡ value_at o f O ⊕ leading o f
+        → evaluate o f I ≡ evaluate o f O ⊕ leading o f
     value_of_ends [] e h = absurd (omega arith)
     value_of_ends (x ∷ []) e h = absurd (omega (arith, prime.above_one))
     value_of_ends (x ∷ y ∷ ys) e h =
         let zeros : (k : ℕ) → suc k < length (y ∷ ys) → slice_index_or (y ∷ ys) k O ≡ O =
         λ k l. zero_from_times (1 + k) (slice_index_or (y ∷ ys) k O) (omega arith) (omega arith)
         (sym (Derivatives.multiples_from_at R 1 (y ∷ ys) k) ∙ h k) in
-        ap₂ ◌⊕◌ (sym (ap (λ w. x ⊕ w) (Rings.zero_mul R (value_at o (y ∷ ys) O)) ∙ Rings.add_zero R x))
-        (R.one_mul (value_at o (y ∷ ys) I) ∙ value_of_last (y ∷ ys) zeros)
+        ap₂ ◌⊕◌ (sym (ap (λ w. x ⊕ w) (Rings.zero_mul R (evaluate o (y ∷ ys) O)) ∙ Rings.add_zero R x))
+        (R.one_mul (evaluate o (y ∷ ys) I) ∙ value_of_last (y ∷ ys) zeros)
 
     ends_of_powers : (a b : A) (n : ℕ) → p ≡ suc n
-        → value_at o (powers_of_sum b a p) I ≡ value_at o (powers_of_sum b a p) O ⊕ leading o (powers_of_sum b a p)
+        → evaluate o (powers_of_sum b a p) I ≡ evaluate o (powers_of_sum b a p) O ⊕ leading o (powers_of_sum b a p)
     ends_of_powers a b n e = value_of_ends (powers_of_sum b a p) (length_of_powers b a p) zeros
       where
         zeros : (k : ℕ) → slice_index_or (raw_derivative o (powers_of_sum b a p)) k O ≡ O

@@ -1,7 +1,7 @@
 pub mod Derivatives
 pub mod Roots
 pub mod Frobenius
-pub mod Reduction
+pub mod ListRemainders
 pub mod ValueMaps
 pub mod Classes
 pub mod Quotients
@@ -10,7 +10,7 @@ pub mod Remainders
 pub mod Constants
 pub mod ValueConstants
 pub mod OnCarriers
-pub mod AtResidues
+pub mod OverResidues
 pub mod Squares
 pub mod Generator
 pub mod PowerRoots

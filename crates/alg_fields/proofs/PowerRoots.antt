@@ -3,7 +3,7 @@ use Rattle.std.proofs.Common.{◌≡◌, ◌<◌, ℕ, zero, suc, ◌+◌, ◌-�
 use Rattle.std.proofs.Math.Nat.{add-mod_right, zero-mod}
 use native.Mathlib.Nat.{mod-add-mod}
 use Rattle.alg_model.specs.Coefficients.{Ops, times, power}
-use Rattle.alg_model.specs.Polynomials.{multiples_from, value_at}
+use Rattle.alg_model.specs.Polynomials.{multiples_from, evaluate}
 use Rattle.alg_rings.specs.Laws.{RingLaws}
 use Rattle.alg_rings.proofs.Rings
 use Rattle.alg_rings.proofs.Rings.{sorted, expanded}
@@ -67,27 +67,27 @@ module _ {A B : Type 0} {o : Ops A} {q : Ops B} (R : RingLaws o) (L : RingLaws q
         turn x y z = simp (sorted, L)
 
     power_from_multiples : (n j : ℕ) (f : List A) → (n + j) % p ≡ 0 → j < p → ((i : ℕ) → slice_index_or (multiples_from o n f) i o.zero ≡ o.zero)
-        → value_at q (map k f) x ≡ power q x j ⊗ power q (value_at q (map k (every p root j f)) x) p
+        → evaluate q (map k f) x ≡ power q x j ⊗ power q (evaluate q (map k (every p root j f)) x) p
     power_from_multiples n j [] e l h =
         sym (ap (λ w. power q x j ⊗ w) (Frobenius.power_of_zero L p prime image) ∙ Rings.mul_zero L (power q x j))
     power_from_multiples n zero (a ∷ f) e l h =
         let next : suc n + (p - 1) ≡ n + p = omega arith in
         let further = power_from_multiples (suc n) (p - 1) f
         (ap (λ m. m % p) next ∙ add-mod_right n p ∙ ap (λ m. m % p) (sym (add-zero n)) ∙ e) (omega arith) (λ i. h (suc i)) in
-        ap (λ w. w ⊕ x ⊗ value_at q (map k f) x) (ap k (sym (rooted a)) ∙ power-map K (root a) p)
-        ∙ start (k (root a)) (value_at q (map k f) x) (value_at q (map k (every p root (p - 1) f)) x) further
+        ap (λ w. w ⊕ x ⊗ evaluate q (map k f) x) (ap k (sym (rooted a)) ∙ power-map K (root a) p)
+        ∙ start (k (root a)) (evaluate q (map k f) x) (evaluate q (map k (every p root (p - 1) f)) x) further
     power_from_multiples n (suc j) (a ∷ f) e l h =
         let next : suc n + j ≡ n + suc j = omega arith in
-        step (k a) (value_at q (map k f) x) j (power q (value_at q (map k (every p root j f)) x) p)
+        step (k a) (evaluate q (map k f) x) j (power q (evaluate q (map k (every p root j f)) x) p)
         (ap k (zero_coefficient n j a e l (h 0)) ∙ K.zero)
         (power_from_multiples (suc n) j f (ap (λ m. m % p) next ∙ e) (omega arith) (λ i. h (suc i)))
 
     -- **what has derivative zero is a power p**
     pub power_from_derivative : (f : List A) → ((i : ℕ) → slice_index_or (raw_derivative o f) i o.zero ≡ o.zero)
-        → value_at q (map k f) x ≡ power q (value_at q (map k (every p root 0 f)) x) p
+        → evaluate q (map k f) x ≡ power q (evaluate q (map k (every p root 0 f)) x) p
     power_from_derivative f h =
         power_from_multiples 0 0 f (zero-mod p) (let l : 1 < p = prime.above_one in omega arith) (from_start f h)
-        ∙ L.one_mul (power q (value_at q (map k (every p root 0 f)) x) p)
+        ∙ L.one_mul (power q (evaluate q (map k (every p root 0 f)) x) p)
       where
         from_start : (f : List A) → ((i : ℕ) → slice_index_or (raw_derivative o f) i o.zero ≡ o.zero)
             → (i : ℕ) → slice_index_or (multiples_from o 0 f) i o.zero ≡ o.zero

@@ -10,10 +10,10 @@ use Rattle.alg_model.specs.Values.{degree, padded, values}
 use Rattle.alg_model.specs.Fields.{IsField}
 use Rattle.alg_rings.specs.Laws.{IsPropositional}
 use Rattle.alg_rings.proofs.Homomorphisms.{Homomorphism}
-use Rattle.alg_rings.proofs.Elements.{Element, element_ops, value_injective}
+use Rattle.alg_rings.proofs.Elements.{Element, element_ops, underlying_injective}
 use Rattle.alg_rings.proofs.Divisors.{Polynomial, polynomial_ops}
 use Rattle.alg_divisors.proofs.Euclidean
-use Rattle.alg_divisors.proofs.Fields.{polynomials_euclidean}
+use Rattle.alg_divisors.proofs.EuclideanPolynomials.{polynomials_euclidean}
 use Rattle.alg_rings.proofs.Modulo
 use Rattle.alg_rings.proofs.Modulo.{Same}
 use Rattle.alg_fields.proofs.Quotients.{IsQuotient}
@@ -59,7 +59,7 @@ module _ {A : Type 0} {c : Carrier A} (P : IsPropositional c) (F : IsField c) (f
   equal a y v s = V.equal (padded c.ops (degree f.0) (a.0 ∷ [])) y (constant_valid a) v (Modulo.same_trans E.ring (same_constant a) s)
 
   same_value : (x y : Element (values c f.0)) → x.0 ≡ y.0 → x ≡ y
-  same_value x y e = value_injective (values_propositional P f.0) x y e
+  same_value x y e = underlying_injective (values_propositional P f.0) x y e
 
   -- what is made of constants is the constant of the result
   back : {a : Polynomial c} {b d : Polynomial c} → Same Q f d b → a ≡ b → Same Q f a d

@@ -10,7 +10,7 @@ use mathlib.Core.List.{is_set}
 use Rattle.alg_model.specs.Coefficients.{Ops, Carrier}
 use Rattle.alg_model.specs.Polynomials.{product, trim}
 use Rattle.alg_model.specs.Factors.{IsMonic, IsIrreducible}
-use Rattle.alg_model.specs.Values.{degree, reduced, values}
+use Rattle.alg_model.specs.Values.{degree, remainder, values}
 use Rattle.alg_model.specs.Fields.{IsRing, IsField}
 use Rattle.alg_rings.specs.Laws.{IsPropositional}
 use Rattle.alg_rings.proofs.Rings
@@ -21,11 +21,11 @@ use Rattle.alg_rings.proofs.Divisors.{Polynomial, polynomial_ops, same_polynomia
 use Rattle.alg_divisors.proofs.Euclidean
 use Rattle.alg_rings.proofs.Divisibility.{Divides}
 use Rattle.alg_divisors.proofs.Irreducible
-use Rattle.alg_divisors.proofs.Fields.{polynomials_euclidean}
-use Rattle.alg_divisors.proofs.Polynomials.{irreducible_from}
+use Rattle.alg_divisors.proofs.EuclideanPolynomials.{polynomials_euclidean}
+use Rattle.alg_divisors.proofs.PolynomialFactors.{irreducible_from}
 use Rattle.alg_rings.proofs.Modulo
 use Rattle.alg_rings.proofs.Modulo.{Same}
-use Rattle.alg_fields.proofs.Reduction.{length_reduced}
+use Rattle.alg_fields.proofs.ListRemainders.{length_remainder}
 use Rattle.alg_fields.proofs.Classes
 use Rattle.alg_fields.proofs.Classes.{class_of}
 use Rattle.alg_fields.proofs.Quotients.{IsQuotient, quotient_ring, quotient_field}
@@ -84,7 +84,7 @@ module _ {A : Type 0} {c : Carrier A} (P : IsPropositional c) (F : IsField c) (f
     zero_valid = (All-replicate c.Valid (degree f.0) c.ops.zero F.ring.zero_valid, length-replicate (degree f.0) c.ops.zero);
     one_valid = one_valid;
     add_valid = λ x y vx vy. (sum_valid F.ring x y vx.0 vy.0, omega (arith, Lists.length_sum c.ops x y));
-    mul_valid = λ x y vx vy. (Classes.reduced_valid P F.ring f.0 (product c.ops x y) f.1.0 (product_valid F.ring x y vx.0 vy.0), length_reduced c.ops f.0 not_constant (product c.ops x y));
+    mul_valid = λ x y vx vy. (Classes.remainder_valid P F.ring f.0 (product c.ops x y) f.1.0 (product_valid F.ring x y vx.0 vy.0), length_remainder c.ops f.0 not_constant (product c.ops x y));
     neg_valid = λ x vx. (negatives_valid F.ring x vx.0, length-map x c.ops.neg ∙ vx.1);
     zero_test = λ x vx. all_zero_iff F.ring (degree f.0) x vx.0 vx.1;
     equal = λ x y vx vy s. Classes.same_from_class P F.ring x y vx.0 vy.0 (vx.1 ∙ sym vy.1)
@@ -94,8 +94,8 @@ module _ {A : Type 0} {c : Carrier A} (P : IsPropositional c) (F : IsField c) (f
         ∙ same_polynomial P F.ring (class_of P F.ring (c.ops.one ∷ []) one_alone) Q.one refl);
     add = λ x y vx vy. Modulo.same_from_equal E.ring (Classes.class_of_sum P F.ring x y vx.0 vy.0 _);
     mul = λ x y vx vy. Modulo.same_trans E.ring
-        (Modulo.same_back E.ring (Classes.reduced_same P F.ring f not_constant monic (product c.ops x y) (product_valid F.ring x y vx.0 vy.0)
-        (Classes.reduced_valid P F.ring f.0 (product c.ops x y) f.1.0 (product_valid F.ring x y vx.0 vy.0))))
+        (Modulo.same_back E.ring (Classes.remainder_same P F.ring f not_constant monic (product c.ops x y) (product_valid F.ring x y vx.0 vy.0)
+        (Classes.remainder_valid P F.ring f.0 (product c.ops x y) f.1.0 (product_valid F.ring x y vx.0 vy.0))))
         (Modulo.same_from_equal E.ring (Classes.class_of_product P F.ring x y vx.0 vy.0 (product_valid F.ring x y vx.0 vy.0)));
     neg = λ x vx. Modulo.same_from_equal E.ring (Classes.class_of_negative P F.ring x vx.0 _);
   }
@@ -107,10 +107,10 @@ module _ {A : Type 0} {c : Carrier A} (P : IsPropositional c) (F : IsField c) (f
   -- the value that a polynomial is the same as
   value_of_polynomial : (a : Polynomial c) → (x : List A) × (v : (values c f.0).Valid x) × Same Q f (polynomial_of x v) a
   value_of_polynomial a =
-      let v : All c.Valid (reduced c.ops f.0 a.0) = Classes.reduced_valid P F.ring f.0 a.0 f.1.0 a.1.0 in (
-        reduced c.ops f.0 a.0,
-        (v, length_reduced c.ops f.0 not_constant a.0),
-        Modulo.same_trans E.ring (Modulo.same_back E.ring (Classes.reduced_same P F.ring f not_constant monic a.0 a.1.0 v))
+      let v : All c.Valid (remainder c.ops f.0 a.0) = Classes.remainder_valid P F.ring f.0 a.0 f.1.0 a.1.0 in (
+        remainder c.ops f.0 a.0,
+        (v, length_remainder c.ops f.0 not_constant a.0),
+        Modulo.same_trans E.ring (Modulo.same_back E.ring (Classes.remainder_same P F.ring f not_constant monic a.0 a.1.0 v))
             (Modulo.same_from_equal E.ring (Classes.class_of_polynomial P F.ring a)),
       )
 

@@ -3,9 +3,9 @@ use Rattle.std.proofs.Common.{◌≡◌, ℕ, zero, suc, ◌-◌, List, [], ◌�
 use Rattle.std.proofs.lemmas.List.{map-append, take-map, length-map}
 use Rattle.alg_model.specs.Coefficients.{Ops}
 use Rattle.alg_model.specs.Polynomials.{sum, scale}
-use Rattle.alg_model.specs.Values.{degree, padded, times_x, reduced}
+use Rattle.alg_model.specs.Values.{degree, padded, times_x, remainder}
 use Rattle.alg_rings.proofs.Homomorphisms.{Homomorphism, sum-map, scale-map, place-map}
-use Rattle.alg_fields.proofs.Reduction.{quotient_by}
+use Rattle.alg_fields.proofs.ListRemainders.{quotient_by}
 
 map-replicate : {A B : Type 0} (h : A → B) (n : ℕ) (x : A) → map h (replicate n x) ≡ replicate n (h x)
 map-replicate h zero x = refl
@@ -34,15 +34,15 @@ module _ {A B : Type 0} {o : Ops A} {o' : Ops B} {h : A → B} (H : Homomorphism
       ∙ ap (λ t. scale o' t (map h f)) (H.neg (slice_index_or r (degree f - 1) o.zero)
       ∙ ap o'.neg (place-map H r (degree f - 1) ∙ ap (λ k. slice_index_or (map h r) (k - 1) o'.zero) (sym (degree-map f))))))
 
-  pub reduced-map : (f g : List A) → map h (reduced o f g) ≡ reduced o' (map h f) (map h g)
-  reduced-map f [] = zeros-map (degree f) ∙ ap (λ n. replicate n o'.zero) (sym (degree-map f))
-  reduced-map f (c ∷ g) =
-      sum-map H (padded o (degree f) (c ∷ [])) (times_x o f (reduced o f g))
+  pub remainder-map : (f g : List A) → map h (remainder o f g) ≡ remainder o' (map h f) (map h g)
+  remainder-map f [] = zeros-map (degree f) ∙ ap (λ n. replicate n o'.zero) (sym (degree-map f))
+  remainder-map f (c ∷ g) =
+      sum-map H (padded o (degree f) (c ∷ [])) (times_x o f (remainder o f g))
       ∙ ap₂ (sum o') (padded-map (degree f) (c ∷ []) ∙ ap (λ n. padded o' n (h c ∷ [])) (sym (degree-map f)))
-      (times_x-map f (reduced o f g) ∙ ap (times_x o' (map h f)) (reduced-map f g))
+      (times_x-map f (remainder o f g) ∙ ap (times_x o' (map h f)) (remainder-map f g))
 
   pub quotient_by-map : (f g : List A) → map h (quotient_by o f g) ≡ quotient_by o' (map h f) (map h g)
   quotient_by-map f [] = refl
   quotient_by-map f (c ∷ g) =
-      ap₂ ◌∷◌ (place-map H (reduced o f g) (degree f - 1) ∙ ap₂ (λ r n. slice_index_or r (n - 1) o'.zero) (reduced-map f g) (sym (degree-map f)))
+      ap₂ ◌∷◌ (place-map H (remainder o f g) (degree f - 1) ∙ ap₂ (λ r n. slice_index_or r (n - 1) o'.zero) (remainder-map f g) (sym (degree-map f)))
       (quotient_by-map f g)

@@ -1,9 +1,9 @@
 -- What the laws of this crate state.
 use Rattle.std.specs.Prelude.{◌≡◌, ◌≢◌, ◌↔◌, ◌⊎◌, ℕ, ◌-◌, ◌%◌, ◌<◌, List, [], ◌∷◌, length, slice_index, All, AllPairs}
 use Rattle.alg_model.specs.Coefficients.{power, mod_ops, residues, IsPrime}
-use Rattle.alg_model.specs.Polynomials.{sum, trim, derivative, value_at, poly_product, poly_power}
+use Rattle.alg_model.specs.Polynomials.{sum, trim, derivative, evaluate, poly_product, poly_power}
 use Rattle.alg_model.specs.Factors.{IsPolynomial, IsMonic, Divides, IsDivision, IsGreatestCommonDivisor, IsProperFactor, IsIrreducible}
-use Rattle.alg_model.specs.Values.{degree, reduced, value_ops, values}
+use Rattle.alg_model.specs.Values.{degree, remainder, value_ops, values}
 use Rattle.alg_model.specs.Fields.{IsField}
 use Rattle.alg_divisors.specs.Factorization.{AreCoprime}
 use Rattle.alg_fields.specs.Fixed.{IsFixed, less_constant, IsCertified}
@@ -13,7 +13,7 @@ abbrev pub RootsAreFew : Type 0
 RootsAreFew =
     (p : ℕ) → IsPrime p → (f roots : List ℕ) → IsPolynomial (residues p) f → f ≢ []
     → All (λ a. a < p) roots → AllPairs (λ a b. a ≢ b) roots
-    → All (λ a. value_at (mod_ops p) f a ≡ 0) roots → length roots < length f
+    → All (λ a. evaluate (mod_ops p) f a ≡ 0) roots → length roots < length f
 
 -- the same over the values modulo an irreducible polynomial
 abbrev pub RootsAmongValuesAreFew : Type 0
@@ -21,14 +21,14 @@ RootsAmongValuesAreFew =
     (p : ℕ) → IsPrime p → (f : List ℕ) → IsMonic (residues p) f → IsIrreducible (residues p) f
     → (g roots : List (List ℕ)) → IsPolynomial (values (residues p) f) g → g ≢ []
     → All (values (residues p) f).Valid roots → AllPairs (λ a b. a ≢ b) roots
-    → All (λ a. value_at (value_ops (mod_ops p) f) g a ≡ (value_ops (mod_ops p) f).zero) roots
+    → All (λ a. evaluate (value_ops (mod_ops p) f) g a ≡ (value_ops (mod_ops p) f).zero) roots
     → length roots < length g
 
 -- a is a root of f exactly if x - a divides f
 abbrev pub RootIffLinearFactor : Type 0
 RootIffLinearFactor =
     (p : ℕ) → IsPrime p → (f : List ℕ) (a : ℕ) → IsPolynomial (residues p) f → a < p
-    → (value_at (mod_ops p) f a ≡ 0) ↔ Divides (residues p) ((p - a) % p ∷ 1 ∷ []) f
+    → (evaluate (mod_ops p) f a ≡ 0) ↔ Divides (residues p) ((p - a) % p ∷ 1 ∷ []) f
 
 -- (a + b)^p = a^p + b^p
 abbrev pub FrobeniusKeepsSums : Type 0
@@ -64,25 +64,25 @@ ValuesOverValuesAreAField =
     → (g : List (List ℕ)) → IsMonic (values (residues p) f) g
     → IsIrreducible (values (residues p) f) g → IsField (values (values (residues p) f) g)
 
--- `reduced` is the remainder of a division
+-- `remainder` is the remainder of a division
 abbrev pub RemainderIsOfDivision : Type 0
 RemainderIsOfDivision =
     (p : ℕ) → IsPrime p → (f g : List ℕ) → IsPolynomial (residues p) f → IsMonic (residues p) f
     → 1 < length f → IsPolynomial (residues p) g → (q : List ℕ)
-    × IsDivision (residues p) g f q (trim (mod_ops p) (reduced (mod_ops p) f g))
+    × IsDivision (residues p) g f q (trim (mod_ops p) (remainder (mod_ops p) f g))
 
 -- it has as many places as the divisor's degree
 abbrev pub RemainderFillsPlaces : Type 0
 RemainderFillsPlaces =
     (p : ℕ) → IsPrime p → (f g : List ℕ) → 1 < length f
-    → length (reduced (mod_ops p) f g) ≡ degree f
+    → length (remainder (mod_ops p) f g) ≡ degree f
 
 -- the remainder of a power is the power of the remainder among the values
 abbrev pub RemainderKeepsPowers : Type 0
 RemainderKeepsPowers =
     (p : ℕ) → IsPrime p → (f g : List ℕ) → IsPolynomial (residues p) f → IsMonic (residues p) f
     → 1 < length f → IsPolynomial (residues p) g → (n : ℕ)
-    → reduced (mod_ops p) f (poly_power (mod_ops p) g n) ≡ power (value_ops (mod_ops p) f) (reduced (mod_ops p) f g) n
+    → remainder (mod_ops p) f (poly_power (mod_ops p) g n) ≡ power (value_ops (mod_ops p) f) (remainder (mod_ops p) f g) n
 
 -- the derivative is zero exactly if only powers of x^p occur
 abbrev pub DerivativeZeroByPlaces : Type 0

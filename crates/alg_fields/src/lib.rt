@@ -28,8 +28,8 @@ pub fn values_are_a_field()
     ensures values { ValuesOverValuesAreAField }
 {}
 
-/// `reduced` is the remainder of division by a monic polynomial, of as many places as its degree, and keeps powers.
-pub fn reduced_is_remainder()
+/// `remainder` is the remainder of division by a monic polynomial, of as many places as its degree, and keeps powers.
+pub fn remainders_of_divisions()
     ensures division { RemainderIsOfDivision }
     ensures places { RemainderFillsPlaces }
     ensures powers { RemainderKeepsPowers }

@@ -7,9 +7,11 @@ use Rattle.std.proofs.lemmas.List.Elements.{All-head, All-tail}
 use Rattle.std.proofs.lemmas.Bool.{cases_eq}
 use Rattle.alg_model.specs.Coefficients.{Ops}
 use Rattle.alg_model.specs.Polynomials.{sum, scale}
+use Rattle.alg_rings.proofs.Lists.{length_scale}
 use Rattle.alg_model.specs.Matrices.{Matrix, column_at, entry, zero_column, unit_column, combination, matrix_apply, matrix_product, identity_matrix}
-use Rattle.alg_linear.proofs.Sums.{total}
-use Rattle.alg_linear.proofs.Grids.{delta, delta_same, delta_other}
+use Rattle.alg_linear.specs.InnerGrids.{total}
+use Rattle.alg_linear.specs.InnerGrids.{delta}
+use Rattle.alg_linear.proofs.Grids.{delta_same, delta_other}
 
 -- all columns have n places
 abbrev pub AreLong : {A : Type 0} → ℕ → List (List A) → Type 0
@@ -25,10 +27,6 @@ module _ {A : Type 0} (o : Ops A) where
   length_same_sum (x ∷ xs) [] n p q = p
   length_same_sum (x ∷ xs) (y ∷ ys) zero p q = absurd (omega arith)
   length_same_sum (x ∷ xs) (y ∷ ys) (suc n) p q = ap suc (length_same_sum xs ys n (omega arith) (omega arith))
-
-  pub length_scaled : (a : A) (xs : List A) → length (scale o a xs) ≡ length xs
-  length_scaled a [] = refl
-  length_scaled a (x ∷ xs) = ap suc (length_scaled a xs)
 
   pub same_sum_at : (xs ys : List A) (n k : ℕ) → length xs ≡ n → length ys ≡ n → k < n
       → get_or (sum o xs ys) k O ≡ get_or xs k O ⊕ get_or ys k O
@@ -48,7 +46,7 @@ module _ {A : Type 0} (o : Ops A) where
   length_combination n (c ∷ cs) [] h = length-replicate n O
   length_combination n (c ∷ cs) (x ∷ xs) h =
       length_same_sum (scale o x c) (combination o n cs xs) n
-      (length_scaled x c ∙ All-head (λ c. length c ≡ n) c cs h)
+      (length_scale o x c ∙ All-head (λ c. length c ≡ n) c cs h)
       (length_combination n cs xs (All-tail (λ c. length c ≡ n) c cs h))
 
   pub combination_at : (n : ℕ) (cs : List (List A)) (xs : List A) → AreLong n cs → length xs ≡ length cs → (r : ℕ) → r < n
@@ -58,7 +56,7 @@ module _ {A : Type 0} (o : Ops A) where
   combination_at n (c ∷ cs) (x ∷ xs) h e r l =
       let head : length c ≡ n = All-head (λ c. length c ≡ n) c cs h in
       let tail = All-tail (λ c. length c ≡ n) c cs h in
-      same_sum_at (scale o x c) (combination o n cs xs) n r (length_scaled x c ∙ head) (length_combination n cs xs tail) l
+      same_sum_at (scale o x c) (combination o n cs xs) n r (length_scale o x c ∙ head) (length_combination n cs xs tail) l
       ∙ ap₂ ◌⊕◌ (scaled_at x c r (omega arith)) (combination_at n cs xs tail (omega arith) r l)
 
   pub length_zero_column : (n : ℕ) → length (zero_column o n) ≡ n
@@ -101,17 +99,17 @@ module _ {A : Type 0} (o : Ops A) where
   -- a multiple of a column, and a sum with a multiple, by their places
   pub scale_by_places : (a : A) (xs ys : List A) → length ys ≡ length xs → ((k : ℕ) → k < length xs → get_or ys k O ≡ a ⊗ get_or xs k O)
       → ys ≡ scale o a xs
-  scale_by_places a xs ys e h = same_columns (length xs) ys (scale o a xs) e (length_scaled a xs) (λ k l. h k l ∙ sym (scaled_at a xs k l))
+  scale_by_places a xs ys e h = same_columns (length xs) ys (scale o a xs) e (length_scale o a xs) (λ k l. h k l ∙ sym (scaled_at a xs k l))
 
   pub sum_scale_at : (a : A) (xs zs : List A) → length zs ≡ length xs → (k : ℕ) → k < length zs
       → get_or (sum o (scale o a zs) xs) k O ≡ a ⊗ get_or zs k O ⊕ get_or xs k O
   sum_scale_at a xs zs f k l =
-      same_sum_at (scale o a zs) xs (length xs) k (length_scaled a zs ∙ f) refl (omega arith) ∙ ap (λ w. w ⊕ get_or xs k O) (scaled_at a zs k l)
+      same_sum_at (scale o a zs) xs (length xs) k (length_scale o a zs ∙ f) refl (omega arith) ∙ ap (λ w. w ⊕ get_or xs k O) (scaled_at a zs k l)
 
   pub sum_scale_by_places : (a : A) (xs ys zs : List A) → length ys ≡ length xs → length zs ≡ length xs
       → ((k : ℕ) → k < length xs → get_or ys k O ≡ a ⊗ get_or zs k O ⊕ get_or xs k O) → ys ≡ sum o (scale o a zs) xs
   sum_scale_by_places a xs ys zs e f h =
-      same_columns (length xs) ys (sum o (scale o a zs) xs) e (length_same_sum (scale o a zs) xs (length xs) (length_scaled a zs ∙ f) refl)
+      same_columns (length xs) ys (sum o (scale o a zs) xs) e (length_same_sum (scale o a zs) xs (length xs) (length_scale o a zs ∙ f) refl)
       (λ k l. h k l ∙ sym (sum_scale_at a xs zs f k (omega arith)))
 
   -- two matrices of n rows that agree at each entry

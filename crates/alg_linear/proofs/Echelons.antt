@@ -6,14 +6,14 @@ use Rattle.alg_model.specs.Coefficients.{Ops, Carrier}
 use Rattle.alg_model.specs.Fields.{IsRing}
 use Rattle.alg_model.specs.Matrices.{Matrix, column_at, entry, IsMatrix, IsInverse, IsReducedEchelon, IsReduction}
 use Rattle.alg_rings.specs.Laws.{IsPropositional}
-use Rattle.alg_rings.proofs.Elements.{Element, element_ops, value_injective}
+use Rattle.alg_rings.proofs.Elements.{Element, element_ops, underlying_injective}
 use Rattle.alg_linear.proofs.Grids
-use Rattle.alg_linear.proofs.Grids.{delta, grid_product}
-use Rattle.alg_linear.proofs.Reduction.{IsReducedTo}
-use Rattle.alg_linear.proofs.Solutions.{IsTransformed}
+use Rattle.alg_linear.specs.InnerGrids.{delta, grid_product}
+use Rattle.alg_linear.specs.InnerGrids.{IsReducedTo}
+use Rattle.alg_linear.specs.InnerGrids.{IsTransformed}
 use Rattle.alg_linear.proofs.Columns.{length_unit_column, unit_column_at, length_product, length_identity, same_columns}
-use Rattle.alg_linear.proofs.Carriers
-use Rattle.alg_linear.proofs.Matrices.{entries, product_value, product_from_entries, product_is_identity, identity_product_entries}
+use Rattle.alg_linear.proofs.CarrierMatrices
+use Rattle.alg_linear.proofs.MatrixEntries.{entries, product_value, product_from_entries, product_is_identity, identity_product_entries}
 
 module _ {A : Type 0} {c : Carrier A} (P : IsPropositional c) (R : IsRing c) where
   -- an entry outside is zero
@@ -31,7 +31,7 @@ module _ {A : Type 0} {c : Carrier A} (P : IsPropositional c) (R : IsRing c) whe
     within = h.within;
     rows_enough = h.rows_enough;
     pivot_column = λ i l. same_columns c.ops m.rows _ _ (w _ [] (h.within i l)).0 (length_unit_column c.ops m.rows i)
-        (λ r lr. ap (λ x. x.0) (h.pivot_column r i lr l) ∙ Carriers.delta_value R r i ∙ sym (unit_column_at c.ops m.rows i r lr));
+        (λ r lr. ap (λ x. x.0) (h.pivot_column r i lr l) ∙ CarrierMatrices.delta_value R r i ∙ sym (unit_column_at c.ops m.rows i r lr));
     before_pivot = λ i k l lk. ap (λ x. x.0) (h.before_pivot i k l lk);
     rest_zero = λ r k l. ⊎_elim
         (λ lr. ⊎_elim (λ lk. ap (λ x. x.0) (h.rest_zero r k l lr lk)) (λ lk. entry_past_column m r k lk) (cases_lt k (length m.columns)))
@@ -44,10 +44,10 @@ module _ {A : Type 0} {c : Carrier A} (P : IsPropositional c) (R : IsRing c) whe
     rising = h.rising;
     within = h.within;
     rows_enough = h.rows_enough;
-    pivot_column = λ r i lr l. value_injective P _ _
-        (ap (λ x. get_or x r c.ops.zero) (h.pivot_column i l) ∙ unit_column_at c.ops m.rows i r lr ∙ sym (Carriers.delta_value R r i));
-    before_pivot = λ i k l lk. value_injective P _ _ (h.before_pivot i k l lk);
-    rest_zero = λ r k l lr lk. value_injective P _ _ (h.rest_zero r k l);
+    pivot_column = λ r i lr l. underlying_injective P _ _
+        (ap (λ x. get_or x r c.ops.zero) (h.pivot_column i l) ∙ unit_column_at c.ops m.rows i r lr ∙ sym (CarrierMatrices.delta_value R r i));
+    before_pivot = λ i k l lk. underlying_injective P _ _ (h.before_pivot i k l lk);
+    rest_zero = λ r k l lr lk. underlying_injective P _ _ (h.rest_zero r k l);
   }
 
   pub reduction_lists : (m form transform : Matrix A) (wm : IsMatrix c m) (wf : IsMatrix c form) (wt : IsMatrix c transform) (pivots : List ℕ)
@@ -84,16 +84,16 @@ module _ {A : Type 0} {c : Carrier A} (P : IsPropositional c) (R : IsRing c) whe
       n = m.rows
 
       w : Matrix A
-      w = Carriers.matrix_of R n n T.back
+      w = CarrierMatrices.matrix_of R n n T.back
 
       ww : IsMatrix c w
-      ww = Carriers.matrix_of_valid R n n T.back
+      ww = CarrierMatrices.matrix_of_valid R n n T.back
 
       wc : length w.columns ≡ n
-      wc = Carriers.length_matrix_of R n n T.back
+      wc = CarrierMatrices.length_matrix_of R n n T.back
 
       back_is : (i j : ℕ) → i < n → j < n → entries R w ww i j ≡ T.back i j
-      back_is i j li lj = value_injective P _ _ (Carriers.entry_of_matrix_of R n n T.back i j li lj)
+      back_is i j li lj = underlying_injective P _ _ (CarrierMatrices.entry_of_matrix_of R n n T.back i j li lj)
 
   pub form_rows : (m form transform : Matrix A) (pivots : List ℕ) → IsReduction c m form transform pivots → form.rows ≡ m.rows
   form_rows m form transform pivots h = sym (ap (λ d. d.rows) h.product) ∙ h.square.0
@@ -114,7 +114,7 @@ module _ {A : Type 0} {c : Carrier A} (P : IsPropositional c) (R : IsRing c) whe
   reduction_transformed m form transform wm wf wt pivots h = record {
     back = entries R w ww;
     product = λ i j li lj. ap (λ n. grid_product B n (entries R transform wt) (entries R m wm) i j) (sym tc)
-        ∙ value_injective P _ _ (sym (product_value P R transform m wt wm (sym tc) i j (omega (arith, tr)) lj) ∙ ap (λ d. entry c.ops d i j) h.product);
+        ∙ underlying_injective P _ _ (sym (product_value P R transform m wt wm (sym tc) i j (omega (arith, tr)) lj) ∙ ap (λ d. entry c.ops d i j) h.product);
     transform_back = λ i j li lj. ap (λ n. grid_product B n (entries R transform wt) (entries R w ww) i j) (sym tc)
         ∙ identity_product_entries P R transform w wt ww transform.rows wr inverse.right i j (omega (arith, tr)) (omega (arith, tr));
     back_transform = λ i j li lj. ap (λ n. grid_product B n (entries R w ww) (entries R transform wt) i j) (sym wc)

@@ -4,7 +4,7 @@ use Rattle.std.specs.List.{swap}
 use Rattle.std.proofs.lemmas.Bool.{cases_eq, eq-eqb, ne_eqb}
 use Rattle.alg_rings.proofs.Rings.{zero_mul, add_zero}
 use Rattle.alg_rings.proofs.Validity.{scale_valid}
-use Rattle.alg_rings.proofs.Carriers.{sum_at, scale_at}
+use Rattle.alg_rings.proofs.CarrierPolynomials.{sum_at, scale_at}
 use Rattle.std.proofs.lemmas.List.{length-set, get_or-set_same, get_or-set_other}
 use Rattle.std.proofs.lemmas.List.Edits.{swap_is}
 use Rattle.alg_model.specs.Coefficients.{Ops, Carrier}
@@ -12,22 +12,13 @@ use Rattle.alg_model.specs.Polynomials.{sum, scale}
 use Rattle.alg_model.specs.Fields.{IsRing}
 use Rattle.alg_model.specs.Matrices.{IsColumn}
 use Rattle.alg_rings.specs.Laws.{IsPropositional, RingLaws}
-use Rattle.alg_rings.proofs.Elements.{Element, element_ops, element_laws, value_injective}
-use Rattle.alg_linear.proofs.RowOperations.{RowEquivalent, equivalent_itself, equivalent_then, equivalent_swapped, equivalent_scaled, equivalent_added, swap_rows, scale_row, add_row, swapped, swapped_first, swapped_to_first, swapped_other, swapped_below}
-use Rattle.alg_linear.proofs.Reduction.{IsReducedTo, reduced_start, reduced_without_pivot, reduced_swapped, reduced_scaled, reduced_cleared, clearing, clearing_pivot, clearing_other}
-use Rattle.alg_linear.proofs.Carriers
-
--- the entries of rows of w places, as elements
-abbrev pub row_entries : {A : Type 0} {c : Carrier A} (R : IsRing c) (w : ℕ) (rows : List (List A)) → All (IsColumn c w) rows → ℕ → ℕ → Element c
-row_entries R w rows v i j = Carriers.grid R w rows v j i
-
--- rows are n rows of w places, got from start by an invertible matrix, and their first m columns are reduced
-pub record IsEliminated {A : Type 0} {c : Carrier A} (R : IsRing c) (w n m : ℕ) (start rows : List (List A)) (pivots : List ℕ) : Type 0 where
-  pub valid_start : All (IsColumn c w) start
-  pub valid : All (IsColumn c w) rows
-  pub count : length rows ≡ n
-  pub equivalent : RowEquivalent (element_ops R) n (row_entries R w start valid_start) (row_entries R w rows valid)
-  pub reduced : IsReducedTo (element_ops R) n m pivots (row_entries R w rows valid)
+use Rattle.alg_rings.proofs.Elements.{Element, element_ops, element_laws, underlying_injective}
+use Rattle.alg_linear.specs.InnerGrids.{RowEquivalent}
+use Rattle.alg_linear.proofs.RowOperations.{equivalent_itself, equivalent_then, equivalent_swapped, equivalent_scaled, equivalent_added, swap_rows, scale_row, add_row, swapped, swapped_first, swapped_to_first, swapped_other, swapped_below}
+use Rattle.alg_linear.specs.InnerGrids.{IsReducedTo}
+use Rattle.alg_linear.proofs.RowReduction.{reduced_start, reduced_without_pivot, reduced_swapped, reduced_scaled, reduced_cleared, clearing, clearing_pivot, clearing_other}
+use Rattle.alg_linear.proofs.CarrierMatrices
+use Rattle.alg_linear.specs.InnerElimination.{row_entries, IsEliminated}
 
 -- row s in the place of row r, multiplied by u, and the others cleared in column m by it
 pub record IsPivotStep {A : Type 0} (o : Ops A) (m r s : ℕ) (u : A) (rows new : List (List A)) : Type 0 where
@@ -60,7 +51,7 @@ module _ {A : Type 0} {c : Carrier A} (P : IsPropositional c) (R : IsRing c) whe
     valid = h.valid;
     count = h.count;
     equivalent = h.equivalent;
-    reduced = reduced_without_pivot B n m pivots _ h.reduced (λ r l ln. value_injective P _ _ (z r l (omega (arith, h.count))));
+    reduced = reduced_without_pivot B n m pivots _ h.reduced (λ r l ln. underlying_injective P _ _ (z r l (omega (arith, h.count))));
   }
 
   -- the rows after a step, entry by entry
@@ -89,11 +80,11 @@ module _ {A : Type 0} {c : Carrier A} (P : IsPropositional c) (R : IsRing c) whe
     row_valid i l = vr i [] l
 
     new_pivot : (j : ℕ) → Y r j ≡ B.mul U (X s j)
-    new_pivot j = value_injective P _ _
+    new_pivot j = underlying_injective P _ _
         (ap (λ x. get_or x j c.ops.zero) step.pivot_row ∙ scale_at P R u (get_or rows s []) j vu (row_valid s ls).1)
 
     new_other : (i j : ℕ) → i < length rows → i ≢ r → Y i j ≡ B.add (B.mul (B.neg (X (swapped r s i) m)) (B.mul U (X s j))) (X (swapped r s i) j)
-    new_other i j li d = value_injective P _ _
+    new_other i j li d = underlying_injective P _ _
         (ap (λ x. get_or x j c.ops.zero) (step.other_rows i li d)
         ∙ sum_at P R (scale c.ops factor.0 pivot_row) other_row j (scale_valid R factor.0 pivot_row factor.1 pivot_valid) other_valid
         ∙ ap (λ y. c.ops.add y (X (swapped r s i) j).0) (scale_at P R factor.0 pivot_row j factor.1 pivot_valid
@@ -162,7 +153,7 @@ module _ {A : Type 0} {c : Carrier A} (P : IsPropositional c) (R : IsRing c) whe
       reduced₁ = reduced_swapped L n m pivots X' X₁ h.reduced s ls ln (λ i j li. refl)
 
       second : RowEquivalent B n X₁ X₃
-      second = equivalent_scaled L n (length pivots) (u, vu) (t, vt) X₁ X₃ (value_injective P _ _ ut) (λ i j li. refl)
+      second = equivalent_scaled L n (length pivots) (u, vu) (t, vt) X₁ X₃ (underlying_injective P _ _ ut) (λ i j li. refl)
 
       reduced₂ : IsReducedTo B n m pivots X₃
       reduced₂ = reduced_scaled L n m pivots X₁ X₃ reduced₁ (u, vu) (λ i j li. refl)
@@ -171,7 +162,7 @@ module _ {A : Type 0} {c : Carrier A} (P : IsPropositional c) (R : IsRing c) whe
       rl = omega arith
 
       one : X₃ (length pivots) m ≡ B.one
-      one = pivot_entries w m (length pivots) s u vu rows new h.valid v rl sn step m ∙ value_injective P _ _ (ap (c.ops.mul u) at ∙ ut)
+      one = pivot_entries w m (length pivots) s u vu rows new h.valid v rl sn step m ∙ underlying_injective P _ _ (ap (c.ops.mul u) at ∙ ut)
 
       entries_are : (i j : ℕ) → i < n → Y' i j ≡ add_row B (length pivots) (clearing B (length pivots) m X₃) X₃ i j
       entries_are i j li = step_entries w m (length pivots) s u vu rows new h.valid v rl sn step i j (omega (arith, h.count))

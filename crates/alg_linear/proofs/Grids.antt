@@ -5,18 +5,8 @@ use Rattle.std.proofs.lemmas.Bool.{eq-eqb, ne_eqb}
 use Rattle.alg_model.specs.Coefficients.{Ops}
 use Rattle.alg_rings.specs.Laws.{RingLaws}
 use Rattle.alg_rings.proofs.Rings.{mul_zero, zero_mul, mul_one, mul_neg, mul_left_comm}
-use Rattle.alg_linear.proofs.Sums.{total, total_same, total_zero, total_add, total_neg, total_scale, total_scale_right, total_swap, total_single}
-
--- one at i = j, else zero
-abbrev pub delta : {A : Type 0} → Ops A → ℕ → ℕ → A
-delta o i j = cond (i == j) o.one o.zero
-
--- X applied to the column x, of n places
-abbrev pub grid_apply : {A : Type 0} → Ops A → ℕ → (ℕ → ℕ → A) → (ℕ → A) → ℕ → A
-grid_apply o n X x i = total o n (λ k. o.mul (X i k) (x k))
-
-abbrev pub grid_product : {A : Type 0} → Ops A → ℕ → (ℕ → ℕ → A) → (ℕ → ℕ → A) → ℕ → ℕ → A
-grid_product o n X Y i j = grid_apply o n X (λ k. Y k j) i
+use Rattle.alg_linear.specs.InnerGrids.{total, delta, grid_apply, grid_product}
+use Rattle.alg_linear.proofs.Sums.{total_same, total_zero, total_add, total_neg, total_scale, total_scale_right, total_swap, total_single}
 
 pub delta_same : {A : Type 0} (o : Ops A) (i j : ℕ) → i ≡ j → delta o i j ≡ o.one
 delta_same o i j e = ap (λ b. cond b o.one o.zero) (eq-eqb i j e)

@@ -1,11 +1,11 @@
 pub mod Sums
 pub mod Grids
 pub mod RowOperations
-pub mod Reduction
+pub mod RowReduction
 pub mod Solutions
 pub mod Columns
-pub mod Carriers
-pub mod Matrices
+pub mod CarrierMatrices
+pub mod MatrixEntries
 pub mod Echelons
 pub mod Kernels
 pub mod Elimination

@@ -5,16 +5,10 @@ use Rattle.std.proofs.lemmas.Bool.{eq-eqb, ne_eqb, cases_eq}
 use Rattle.alg_model.specs.Coefficients.{Ops}
 use Rattle.alg_rings.specs.Laws.{RingLaws}
 use Rattle.alg_rings.proofs.Rings.{zero_mul, add_zero, add_mul}
-use Rattle.alg_linear.proofs.Sums.{total, total_same, total_add, total_scale}
-use Rattle.alg_linear.proofs.Grids.{delta, grid_product, apply_delta, product_assoc, apply_same}
-
--- the n rows of Y are an invertible matrix times those of X
-pub record RowEquivalent {A : Type 0} (o : Ops A) (n : ℕ) (X Y : ℕ → ℕ → A) : Type 0 where
-  pub forward : ℕ → ℕ → A
-  pub back : ℕ → ℕ → A
-  pub forward_back : (i j : ℕ) → i < n → j < n → grid_product o n forward back i j ≡ delta o i j
-  pub back_forward : (i j : ℕ) → i < n → j < n → grid_product o n back forward i j ≡ delta o i j
-  pub moves : (i j : ℕ) → i < n → Y i j ≡ grid_product o n forward X i j
+use Rattle.alg_linear.specs.InnerGrids.{total, RowEquivalent}
+use Rattle.alg_linear.proofs.Sums.{total_same, total_add, total_scale}
+use Rattle.alg_linear.specs.InnerGrids.{delta, grid_product}
+use Rattle.alg_linear.proofs.Grids.{apply_delta, product_assoc, apply_same}
 
 -- r for s and s for r
 abbrev pub swapped : ℕ → ℕ → ℕ → ℕ

@@ -4,17 +4,12 @@ use Rattle.std.proofs.lemmas.Bool.{cases_eq, cases_lt, eq-eqb, ne_eqb, lt-ltb, l
 use Rattle.alg_model.specs.Coefficients.{Ops}
 use Rattle.alg_rings.specs.Laws.{RingLaws}
 use Rattle.alg_rings.proofs.Rings.{mul_zero, zero_mul, mul_one, neg_zero, same_from_difference}
-use Rattle.alg_linear.proofs.Sums.{total, total_zero, total_single, total_pair}
-use Rattle.alg_linear.proofs.Grids.{delta, delta_same, delta_other, grid_apply, grid_product, apply_same, apply_delta, apply_to_delta, apply_product, apply_zero, zero_apply, apply_add, apply_neg, apply_combination}
-use Rattle.alg_linear.proofs.RowOperations.{RowEquivalent}
-use Rattle.alg_linear.proofs.Reduction.{IsReducedTo}
-
--- E is T * M, for n rows and m columns, and T has an inverse
-pub record IsTransformed {A : Type 0} (o : Ops A) (n m : ℕ) (M E T : ℕ → ℕ → A) : Type 0 where
-  pub back : ℕ → ℕ → A
-  pub product : (i j : ℕ) → i < n → j < m → grid_product o n T M i j ≡ E i j
-  pub transform_back : (i j : ℕ) → i < n → j < n → grid_product o n T back i j ≡ delta o i j
-  pub back_transform : (i j : ℕ) → i < n → j < n → grid_product o n back T i j ≡ delta o i j
+use Rattle.alg_linear.specs.InnerGrids.{total, IsTransformed, AreFree, AreKernelColumns}
+use Rattle.alg_linear.proofs.Sums.{total_zero, total_single, total_pair}
+use Rattle.alg_linear.specs.InnerGrids.{delta, grid_apply, grid_product}
+use Rattle.alg_linear.proofs.Grids.{delta_same, delta_other, apply_same, apply_delta, apply_to_delta, apply_product, apply_zero, zero_apply, apply_add, apply_neg, apply_combination}
+use Rattle.alg_linear.specs.InnerGrids.{RowEquivalent}
+use Rattle.alg_linear.specs.InnerGrids.{IsReducedTo}
 
 -- entries of the form and of the transform alone count
 pub transformed_same : {A : Type 0} (o : Ops A) (n m : ℕ) (M E T E' T' : ℕ → ℕ → A) → IsTransformed o n m M E T
@@ -25,20 +20,6 @@ transformed_same o n m M E T E' T' h e t = record {
   transform_back = λ i j li lj. apply_same o n T' T (λ k. h.back k j) (λ k. h.back k j) i (λ k lk. t i k li lk) (λ _ _. refl) ∙ h.transform_back i j li lj;
   back_transform = λ i j li lj. apply_same o n h.back h.back (λ k. T' k j) (λ k. T k j) i (λ _ _. refl) (λ k lk. t k j lk lj) ∙ h.back_transform i j li lj;
 }
-
--- the columns below m that are no pivots
-pub record AreFree (m : ℕ) (pivots free : List ℕ) : Type 0 where
-  pub within : (t : ℕ) → t < length free → get_or free t 0 < m
-  pub rising : (s t : ℕ) → s < t → t < length free → get_or free s 0 < get_or free t 0
-  pub no_pivot : (i t : ℕ) → i < length pivots → t < length free → get_or pivots i 0 ≢ get_or free t 0
-  pub covers : (k : ℕ) → k < m
-      → ((i : ℕ) × (i < length pivots) × (get_or pivots i 0 ≡ k)) ⊎ ((t : ℕ) × (t < length free) × (get_or free t 0 ≡ k))
-  pub number : length pivots + length free ≡ m
-
--- v t is one at the t-th free column, zero at the others, and at the pivot of row i it is - E i (the t-th free column)
-pub record AreKernelColumns {A : Type 0} (o : Ops A) (pivots free : List ℕ) (E v : ℕ → ℕ → A) : Type 0 where
-  pub at_free : (t s : ℕ) → t < length free → s < length free → v t (get_or free s 0) ≡ delta o t s
-  pub at_pivot : (t i : ℕ) → t < length free → i < length pivots → v t (get_or pivots i 0) ≡ o.neg (E i (get_or free t 0))
 
 module _ {A : Type 0} {o : Ops A} (R : RingLaws o) where
   open o use {zero as O, one as I, add as ◌⊕◌, mul as ◌⊗◌, neg}

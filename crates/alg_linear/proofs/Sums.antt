@@ -3,11 +3,7 @@ use Rattle.std.proofs.Common.{◌≡◌, ◌≢◌, ℕ, zero, suc, ◌<◌, ref
 use Rattle.alg_model.specs.Coefficients.{Ops}
 use Rattle.alg_rings.specs.Laws.{RingLaws}
 use Rattle.alg_rings.proofs.Rings.{add_zero, add_swap, mul_zero, neg_zero, neg_sum}
-
--- f 0 + .. + f (n - 1)
-abbrev pub total : {A : Type 0} → Ops A → ℕ → (ℕ → A) → A
-total o zero f = o.zero
-total o (suc n) f = o.add (f 0) (total o n (λ k. f (suc k)))
+use Rattle.alg_linear.specs.InnerGrids.{total}
 
 pub total_same : {A : Type 0} (o : Ops A) (n : ℕ) (f g : ℕ → A) → ((k : ℕ) → k < n → f k ≡ g k) → total o n f ≡ total o n g
 total_same o zero f g h = refl

@@ -4,7 +4,7 @@
 --     poly_sum, poly_negative, poly_difference, poly_product     the same with zeros at the end dropped
 --     leading f                      the last coefficient; zero for the empty list
 --     derivative f                   its k-th coefficient is k + 1 times the coefficient of f at k + 1
---     value_at f a                   the sum of f's coefficients times the powers of a
+--     evaluate f a                   the sum of f's coefficients times the powers of a
 --     poly_power f n                 f * .. * f, n times
 --     convolution f g k              the sum of f_i * g_j over all i + j = k
 use Rattle.std.specs.Prelude.{ℕ, zero, suc, ◌-◌, Bool, cond, List, [], ◌∷◌, map, slice_index_or}
@@ -65,9 +65,9 @@ module _ {A : Type 0} (o : Ops A) where
   derivative [] = []
   derivative (x ∷ xs) = trim (multiples_from 1 xs)
 
-  abbrev pub value_at : List A → A → A
-  value_at [] a = o.zero
-  value_at (x ∷ xs) a = o.add x (o.mul a (value_at xs a))
+  abbrev pub evaluate : List A → A → A
+  evaluate [] a = o.zero
+  evaluate (x ∷ xs) a = o.add x (o.mul a (evaluate xs a))
 
   abbrev pub poly_power : List A → ℕ → List A
   poly_power f zero = trim (o.one ∷ [])

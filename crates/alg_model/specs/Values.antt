@@ -1,7 +1,7 @@
 -- The values of a field: residues of polynomials modulo a monic f, as lists of exactly deg f coefficients.
 --     padded o n xs            xs with zeros at its end up to n places
---     reduced o f xs           the remainder of xs by the monic f, as a list of deg f places
---     value_ops o f            sums placewise, products reduced
+--     remainder o f xs           the remainder of xs by the monic f, as a list of deg f places
+--     value_ops o f            sums placewise, products remainder
 --     values c f               the values over c modulo f
 use Rattle.std.specs.Prelude.{◌≡◌, ℕ, zero, suc, ◌+◌, ◌-◌, ◌*◌, ◌<◌, Bool, List, [], ◌∷◌, ◌++◌, length, map, replicate, take, All, slice_index_or}
 use Rattle.std.specs.List.{list_all}
@@ -20,16 +20,16 @@ module _ {A : Type 0} (o : Ops A) where
   times_x f r = take (degree f) (sum o (o.zero ∷ r) (scale o (o.neg (slice_index_or r (degree f - 1) o.zero)) f))
 
   -- c + x * g has the remainder c + x * (remainder of g)
-  abbrev pub reduced : List A → List A → List A
-  reduced f [] = replicate (degree f) o.zero
-  reduced f (c ∷ g) = sum o (padded (degree f) (c ∷ [])) (times_x f (reduced f g))
+  abbrev pub remainder : List A → List A → List A
+  remainder f [] = replicate (degree f) o.zero
+  remainder f (c ∷ g) = sum o (padded (degree f) (c ∷ [])) (times_x f (remainder f g))
 
   abbrev pub value_ops : List A → Ops (List A)
   value_ops f = record {
     zero = replicate (degree f) o.zero;
     one = padded (degree f) (o.one ∷ []);
     add = sum o;
-    mul = λ a b. reduced f (product o a b);
+    mul = λ a b. remainder f (product o a b);
     neg = map o.neg;
     is_zero = list_all o.is_zero;
   }

@@ -12,8 +12,8 @@ use Rattle.alg_rings.proofs.Lists.{sum_nil, product_nil, nil_or_not, length_not_
 use Rattle.alg_rings.proofs.Trims.{length_poly_difference}
 use Rattle.alg_rings.proofs.Division
 use Rattle.alg_rings.proofs.Homomorphisms.{poly_sum-map, poly_product-map, trim-map, leading-map}
-use Rattle.alg_rings.proofs.Carriers.{nil_polynomial, one_polynomial, one_poly_product, poly_product_polynomial, poly_product_assoc, poly_sum_polynomial, poly_negative_polynomial, trimmed_elements, polynomials_ring, polynomials_propositional, poly_difference_polynomial}
-use Rattle.alg_rings.proofs.Elements.{Element, value, element_ops, value_homomorphism, value_injective, on_valid₂, values_valid, element_laws, element_field}
+use Rattle.alg_rings.proofs.CarrierPolynomials.{nil_polynomial, one_polynomial, one_poly_product, poly_product_polynomial, poly_product_assoc, poly_sum_polynomial, poly_negative_polynomial, trimmed_elements, polynomials_ring, polynomials_propositional, poly_difference_polynomial}
+use Rattle.alg_rings.proofs.Elements.{Element, underlying, element_ops, underlying_homomorphism, underlying_injective, on_valid₂, underlying_valid, element_laws, element_field}
 
 -- the polynomials over c with their validity: every law of a ring holds of them with no premise
 abbrev pub Polynomial : {A : Type 0} → Carrier A → Type 0
@@ -30,7 +30,7 @@ module _ {A : Type 0} {c : Carrier A} (P : IsPropositional c) (R : IsRing c) whe
   value_of f = f.0
 
   pub same_polynomial : (f g : Polynomial c) → f.0 ≡ g.0 → f ≡ g
-  same_polynomial f g e = value_injective (polynomials_propositional P) f g e
+  same_polynomial f g e = underlying_injective (polynomials_propositional P) f g e
 
   -- powers in the ring of polynomials
   pub power_is : (f : Polynomial c) (n : ℕ) → (power polynomial_ops f n).0 ≡ poly_power c.ops f.0 n
@@ -83,15 +83,15 @@ module _ {A : Type 0} {c : Carrier A} (P : IsPropositional c) (F : IsField c) wh
       → length (poly_product c.ops f g) + 1 ≡ length f + length g
   length_poly_product f g vf vg = on_valid₂ c (λ f g. trim c.ops f ≡ f → trim c.ops g ≡ g → f ≢ [] → g ≢ []
       → length (poly_product c.ops f g) + 1 ≡ length f + length g)
-      (λ X Y ex ey hx hy. let H = value_homomorphism F.ring in
+      (λ X Y ex ey hx hy. let H = underlying_homomorphism F.ring in
       omega (
         arith,
         Division.length_poly_product (element_field P F) X Y (trimmed_elements P F.ring X ex) (trimmed_elements P F.ring Y ey)
-            (λ z. hx (ap (map (value c)) z)) (λ z. hy (ap (map (value c)) z)),
+            (λ z. hx (ap (map (underlying c)) z)) (λ z. hy (ap (map (underlying c)) z)),
         ap length (poly_product-map H X Y),
-        length-map X (value c),
-        length-map Y (value c),
-        length-map (poly_product (element_ops F.ring) X Y) (value c),
+        length-map X (underlying c),
+        length-map Y (underlying c),
+        length-map (poly_product (element_ops F.ring) X Y) (underlying c),
       ))
       f g vf.0 vg.0 vf.1 vg.1
 
@@ -99,9 +99,9 @@ module _ {A : Type 0} {c : Carrier A} (P : IsPropositional c) (F : IsField c) wh
       → leading c.ops (poly_product c.ops f g) ≡ c.ops.mul (leading c.ops f) (leading c.ops g)
   leading_poly_product f g vf vg = on_valid₂ c (λ f g. trim c.ops f ≡ f → trim c.ops g ≡ g
       → leading c.ops (poly_product c.ops f g) ≡ c.ops.mul (leading c.ops f) (leading c.ops g))
-      (λ X Y ex ey. let H = value_homomorphism F.ring in
+      (λ X Y ex ey. let H = underlying_homomorphism F.ring in
       ap (leading c.ops) (sym (poly_product-map H X Y)) ∙ sym (leading-map H (poly_product (element_ops F.ring) X Y))
-      ∙ ap (value c) (Division.leading_poly_product (element_field P F) X Y (trimmed_elements P F.ring X ex) (trimmed_elements P F.ring Y ey))
+      ∙ ap (underlying c) (Division.leading_poly_product (element_field P F) X Y (trimmed_elements P F.ring X ex) (trimmed_elements P F.ring Y ey))
       ∙ ap₂ c.ops.mul (leading-map H X) (leading-map H Y))
       f g vf.0 vg.0 vf.1 vg.1
 
@@ -120,24 +120,24 @@ module _ {A : Type 0} {c : Carrier A} (P : IsPropositional c) (F : IsField c) wh
       omega (arith, length_poly_product e.0 d e.1 vd hq hd, ap length e.2, length_not_nil e.0 hq)
 
   -- ---- division with remainder
-  division_values : (X D Q S : List (Element c)) → trim c.ops (map (value c) X) ≡ map (value c) X
-      → Division.Division (element_field P F) X D Q S → IsDivision c (map (value c) X) (map (value c) D) (map (value c) Q) (map (value c) S)
-  division_values X D Q S e d = let H = value_homomorphism F.ring in record {
-    quotient = (values_valid c Q, sym (trim-map H Q) ∙ ap (map (value c)) d.quotient);
-    remainder = (values_valid c S, sym (trim-map H S) ∙ ap (map (value c)) d.remainder);
+  division_values : (X D Q S : List (Element c)) → trim c.ops (map (underlying c) X) ≡ map (underlying c) X
+      → Division.Division (element_field P F) X D Q S → IsDivision c (map (underlying c) X) (map (underlying c) D) (map (underlying c) Q) (map (underlying c) S)
+  division_values X D Q S e d = let H = underlying_homomorphism F.ring in record {
+    quotient = (underlying_valid c Q, sym (trim-map H Q) ∙ ap (map (underlying c)) d.quotient);
+    remainder = (underlying_valid c S, sym (trim-map H S) ∙ ap (map (underlying c)) d.remainder);
     identity =
-        ap (λ w. poly_sum c.ops w (map (value c) S)) (sym (poly_product-map H Q D))
+        ap (λ w. poly_sum c.ops w (map (underlying c) S)) (sym (poly_product-map H Q D))
         ∙ sym (poly_sum-map H (poly_product (element_ops F.ring) Q D) S)
-        ∙ ap (map (value c)) d.identity ∙ trim-map H X ∙ e;
-    smaller = omega (arith, d.smaller, length-map D (value c), length-map S (value c));
+        ∙ ap (map (underlying c)) d.identity ∙ trim-map H X ∙ e;
+    smaller = omega (arith, d.smaller, length-map D (underlying c), length-map S (underlying c));
   }
 
   pub division : (f d : List A) → IsPolynomial c f → IsPolynomial c d → d ≢ [] → (q : List A) × (r : List A) × IsDivision c f d q r
   division f d vf vd h = on_valid₂ c
       (λ f d. trim c.ops f ≡ f → trim c.ops d ≡ d → 0 < length d → (q : List A) × (r : List A) × IsDivision c f d q r)
       (λ X D ex ed l.
-      let d = Division.division (element_field P F) X D (trimmed_elements P F.ring D ed) (omega (arith, length-map D (value c))) in
-      (map (value c) d.0, map (value c) d.1, division_values X D d.0 d.1 ex d.2))
+      let d = Division.division (element_field P F) X D (trimmed_elements P F.ring D ed) (omega (arith, length-map D (underlying c))) in
+      (map (underlying c) d.0, map (underlying c) d.1, division_values X D d.0 d.1 ex d.2))
       f d vf.0 vd.0 vf.1 vd.1 (length_not_nil d h)
 
   -- a multiple of d that is the difference of two lists shorter than d is zero
@@ -158,7 +158,7 @@ module _ {A : Type 0} {c : Carrier A} (P : IsPropositional c) (F : IsField c) wh
   division_unique f d q r q' r' vd D D' =
       let L = polynomial_laws P F.ring in
       let m : poly_product c.ops (poly_difference c.ops q q') d ≡ poly_difference c.ops r' r =
-      ap (value (polynomials c)) (Rings.difference_of_multiples L (q, D.quotient) (q', D'.quotient) (d, vd) (r, D.remainder) (r', D'.remainder)
+      ap (underlying (polynomials c)) (Rings.difference_of_multiples L (q, D.quotient) (q', D'.quotient) (d, vd) (r, D.remainder) (r', D'.remainder)
       (same_polynomial P F.ring _ _ (D.identity ∙ sym D'.identity))) in
       let z : poly_difference c.ops q q' ≡ [] =
       short_multiple (poly_difference c.ops q q') d r r' (poly_difference_polynomial P F.ring q q' D.quotient D'.quotient) vd
@@ -168,7 +168,7 @@ module _ {A : Type 0} {c : Carrier A} (P : IsPropositional c) (F : IsField c) wh
       )
     where
       same_from_nil : (f g : List A) → IsPolynomial c f → IsPolynomial c g → poly_difference c.ops f g ≡ [] → f ≡ g
-      same_from_nil f g vf vg e = ap (value (polynomials c))
+      same_from_nil f g vf vg e = ap (underlying (polynomials c))
           (Rings.same_from_difference (polynomial_laws P F.ring) (f, vf) (g, vg) (same_polynomial P F.ring _ _ e))
 
   no_remainder : (f d q : List A) → IsPolynomial c d → IsPolynomial c q

@@ -1,7 +1,7 @@
 -- Maps that keep the operations: applied to each coefficient they keep every operation on polynomials.
 use Rattle.std.proofs.Common.{◌≡◌, ℕ, zero, suc, ◌-◌, Bool, cond, List, [], ◌∷◌, map, slice_index_or, refl, ap, ap₂, ◌∙◌}
 use Rattle.alg_model.specs.Coefficients.{Ops, times, power}
-use Rattle.alg_model.specs.Polynomials.{sum, scale, shift, product, cons_trimmed, trim, poly_sum, poly_negative, poly_difference, poly_product, leading, multiples_from, derivative, value_at, poly_power, convolution_to, convolution}
+use Rattle.alg_model.specs.Polynomials.{sum, scale, shift, product, cons_trimmed, trim, poly_sum, poly_negative, poly_difference, poly_product, leading, multiples_from, derivative, evaluate, poly_power, convolution_to, convolution}
 
 pub record Homomorphism {A B : Type 0} (o : Ops A) (o' : Ops B) (h : A → B) : Type 0 where
   pub zero : h o.zero ≡ o'.zero
@@ -77,11 +77,11 @@ module _ {A B : Type 0} {o : Ops A} {o' : Ops B} {h : A → B} (H : Homomorphism
   derivative-map [] = refl
   derivative-map (x ∷ xs) = trim-map (multiples_from o 1 xs) ∙ ap (trim o') (multiples_from-map 1 xs)
 
-  pub value_at-map : (f : List A) (a : A) → h (value_at o f a) ≡ value_at o' (map h f) (h a)
-  value_at-map [] a = H.zero
-  value_at-map (x ∷ xs) a =
-      H.add x (o.mul a (value_at o xs a))
-      ∙ ap (o'.add (h x)) (H.mul a (value_at o xs a) ∙ ap (o'.mul (h a)) (value_at-map xs a))
+  pub evaluate-map : (f : List A) (a : A) → h (evaluate o f a) ≡ evaluate o' (map h f) (h a)
+  evaluate-map [] a = H.zero
+  evaluate-map (x ∷ xs) a =
+      H.add x (o.mul a (evaluate o xs a))
+      ∙ ap (o'.add (h x)) (H.mul a (evaluate o xs a) ∙ ap (o'.mul (h a)) (evaluate-map xs a))
 
   pub poly_power-map : (f : List A) (n : ℕ) → map h (poly_power o f n) ≡ poly_power o' (map h f) n
   poly_power-map f zero = trim-map (o.one ∷ []) ∙ ap (λ w. trim o' (w ∷ [])) H.one

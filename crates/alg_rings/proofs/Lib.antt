@@ -1,7 +1,7 @@
 pub mod Rings
 pub mod Lists
 pub mod Trims
-pub mod Polynomials
+pub mod PolynomialLaws
 pub mod Division
 pub mod Monomials
 pub mod Residues
@@ -10,11 +10,12 @@ pub mod ResidueFields
 pub mod Homomorphisms
 pub mod Elements
 pub mod Validity
-pub mod Carriers
+pub mod CarrierPolynomials
 pub mod Divisors
 pub mod LongDivision
 pub mod Divisibility
 pub mod Modulo
 pub mod Powers
-pub mod Points
-pub mod Order
+pub mod Evaluation
+pub mod PolynomialOrder
+pub mod ValidEntries

@@ -7,8 +7,8 @@ use Rattle.alg_model.specs.Fields.{IsRing}
 use Rattle.alg_rings.specs.Laws.{IsPropositional}
 use Rattle.alg_rings.proofs.Monomials
 use Rattle.alg_rings.proofs.Homomorphisms
-use Rattle.alg_rings.proofs.Elements.{Element, value, element_ops, value_homomorphism, value_injective, on_valid₂, on_valid₃, element_laws}
-use Rattle.alg_rings.proofs.Carriers.{same_place, trim_polynomial, trim_sum_first, trim_sum_second, trim_product_first, length_trim_below}
+use Rattle.alg_rings.proofs.Elements.{Element, underlying, element_ops, underlying_homomorphism, underlying_injective, on_valid₂, on_valid₃, element_laws}
+use Rattle.alg_rings.proofs.CarrierPolynomials.{same_place, trim_polynomial, trim_sum_first, trim_sum_second, trim_product_first, length_trim_below}
 use Rattle.alg_rings.proofs.Validity.{product_valid, trim_valid}
 
 module _ {A : Type 0} {c : Carrier A} (P : IsPropositional c) (R : IsRing c) where
@@ -25,24 +25,24 @@ module _ {A : Type 0} {c : Carrier A} (P : IsPropositional c) (R : IsRing c) whe
       × ((k : ℕ) → slice_index_or r' (i + k) O ≡ slice_index_or r (i + k) O ⊕ neg (t ⊗ slice_index_or d k O))
 
   step_of_elements : (Q Q' D S S' : List (Element c)) (t : Element c) (i : ℕ)
-      → IsStep (map (value c) Q) (map (value c) Q') (map (value c) D) (map (value c) S) (map (value c) S') t.0 i
-      → trim c.ops (sum c.ops (product c.ops (map (value c) Q') (map (value c) D)) (map (value c) S'))
-      ≡ trim c.ops (sum c.ops (product c.ops (map (value c) Q) (map (value c) D)) (map (value c) S))
-  step_of_elements Q Q' D S S' t i s = let H = value_homomorphism R in
-      sym (poly_value Q' S') ∙ ap (map (value c)) (Monomials.division_step (element_laws P R) Q Q' D S S' t i
+      → IsStep (map (underlying c) Q) (map (underlying c) Q') (map (underlying c) D) (map (underlying c) S) (map (underlying c) S') t.0 i
+      → trim c.ops (sum c.ops (product c.ops (map (underlying c) Q') (map (underlying c) D)) (map (underlying c) S'))
+      ≡ trim c.ops (sum c.ops (product c.ops (map (underlying c) Q) (map (underlying c) D)) (map (underlying c) S))
+  step_of_elements Q Q' D S S' t i s = let H = underlying_homomorphism R in
+      sym (poly_value Q' S') ∙ ap (map (underlying c)) (Monomials.division_step (element_laws P R) Q Q' D S S' t i
       (λ k h. same_place P R Q' Q k (s.0 k h))
-      (value_injective P _ _ (Homomorphisms.place-map H Q' i ∙ s.1 ∙ ap (λ w. w ⊕ t.0) (sym (Homomorphisms.place-map H Q i))))
+      (underlying_injective P _ _ (Homomorphisms.place-map H Q' i ∙ s.1 ∙ ap (λ w. w ⊕ t.0) (sym (Homomorphisms.place-map H Q i))))
       (λ k h. same_place P R S' S k (s.2 k h))
-      (λ k. value_injective P _ _ (Homomorphisms.place-map H S' (i + k) ∙ s.3 k
+      (λ k. underlying_injective P _ _ (Homomorphisms.place-map H S' (i + k) ∙ s.3 k
       ∙ ap₂ (λ v w. v ⊕ neg (t.0 ⊗ w)) (sym (Homomorphisms.place-map H S (i + k))) (sym (Homomorphisms.place-map H D k)))))
       ∙ poly_value Q S
     where
-      poly_value : (X Y : List (Element c)) → map (value c) (trim (element_ops R) (sum (element_ops R) (product (element_ops R) X D) Y))
-          ≡ trim c.ops (sum c.ops (product c.ops (map (value c) X) (map (value c) D)) (map (value c) Y))
-      poly_value X Y = let H = value_homomorphism R in
+      poly_value : (X Y : List (Element c)) → map (underlying c) (trim (element_ops R) (sum (element_ops R) (product (element_ops R) X D) Y))
+          ≡ trim c.ops (sum c.ops (product c.ops (map (underlying c) X) (map (underlying c) D)) (map (underlying c) Y))
+      poly_value X Y = let H = underlying_homomorphism R in
           Homomorphisms.trim-map H (sum (element_ops R) (product (element_ops R) X D) Y)
           ∙ ap (trim c.ops) (Homomorphisms.sum-map H (product (element_ops R) X D) Y
-          ∙ ap (λ w. sum c.ops w (map (value c) Y)) (Homomorphisms.product-map H X D))
+          ∙ ap (λ w. sum c.ops w (map (underlying c) Y)) (Homomorphisms.product-map H X D))
 
   pub division_step : (q q' d r r' : List A) (t : A) (i : ℕ)
       → All c.Valid q → All c.Valid q' → All c.Valid d → All c.Valid r → All c.Valid r' → c.Valid t → IsStep q q' d r r' t i
@@ -50,9 +50,9 @@ module _ {A : Type 0} {c : Carrier A} (P : IsPropositional c) (R : IsRing c) whe
   division_step q q' d r r' t i vq vq' vd vr vr' vt =
       on_valid₂ c (λ q q'. IsStep q q' d r r' t i
       → trim c.ops (sum c.ops (product c.ops q' d) r') ≡ trim c.ops (sum c.ops (product c.ops q d) r))
-      (λ Q Q'. on_valid₃ c (λ d r r'. IsStep (map (value c) Q) (map (value c) Q') d r r' t i
-      → trim c.ops (sum c.ops (product c.ops (map (value c) Q') d) r')
-      ≡ trim c.ops (sum c.ops (product c.ops (map (value c) Q) d) r))
+      (λ Q Q'. on_valid₃ c (λ d r r'. IsStep (map (underlying c) Q) (map (underlying c) Q') d r r' t i
+      → trim c.ops (sum c.ops (product c.ops (map (underlying c) Q') d) r')
+      ≡ trim c.ops (sum c.ops (product c.ops (map (underlying c) Q) d) r))
       (λ D S S'. step_of_elements Q Q' D S S' (t, vt) i) d r r' vd vr vr')
       q q' vq vq'
 

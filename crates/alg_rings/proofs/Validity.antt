@@ -1,17 +1,17 @@
 -- Over a carrier that is a ring the operations on valid elements and lists give valid ones.
 use Rattle.std.proofs.Common.{◌≡◌, ℕ, List, map, slice_index_or, subst, All}
 use Rattle.alg_model.specs.Coefficients.{Ops, Carrier, times, power}
-use Rattle.alg_model.specs.Polynomials.{sum, scale, shift, product, trim, poly_negative, leading, multiples_from, value_at, convolution}
+use Rattle.alg_model.specs.Polynomials.{sum, scale, shift, product, trim, poly_negative, leading, multiples_from, evaluate, convolution}
 use Rattle.alg_model.specs.Fields.{IsRing}
 use Rattle.alg_rings.proofs.Homomorphisms
-use Rattle.alg_rings.proofs.Elements.{Element, value, element_ops, value_homomorphism, on_valid, on_valid₂, values_valid}
+use Rattle.alg_rings.proofs.Elements.{Element, underlying, element_ops, underlying_homomorphism, on_valid, on_valid₂, underlying_valid}
 
-valid_image : {A : Type 0} (c : Carrier A) (F : List (Element c)) (f : List A) → map (value c) F ≡ f → All c.Valid f
-valid_image c F f e = subst (All c.Valid) e (values_valid c F)
+valid_image : {A : Type 0} (c : Carrier A) (F : List (Element c)) (f : List A) → map (underlying c) F ≡ f → All c.Valid f
+valid_image c F f e = subst (All c.Valid) e (underlying_valid c F)
 
 module _ {A : Type 0} {c : Carrier A} (R : IsRing c) where
-  abbrev H : Homomorphisms.Homomorphism (element_ops R) c.ops (value c)
-  H = value_homomorphism R
+  abbrev H : Homomorphisms.Homomorphism (element_ops R) c.ops (underlying c)
+  H = underlying_homomorphism R
 
   abbrev E : Ops (Element c)
   E = element_ops R
@@ -58,9 +58,9 @@ module _ {A : Type 0} {c : Carrier A} (R : IsRing c) where
   convolution_valid f g k vf vg = on_valid₂ c (λ f g. c.Valid (convolution c.ops f g k))
       (λ F G. subst c.Valid (Homomorphisms.convolution-map H F G k) (convolution E F G k).1) f g vf vg
 
-  pub value_at_valid : (f : List A) (a : A) → All c.Valid f → c.Valid a → c.Valid (value_at c.ops f a)
-  value_at_valid f a vf v = on_valid c (λ f. c.Valid (value_at c.ops f a))
-      (λ F. subst c.Valid (Homomorphisms.value_at-map H F (a, v)) (value_at E F (a, v)).1) f vf
+  pub value_at_valid : (f : List A) (a : A) → All c.Valid f → c.Valid a → c.Valid (evaluate c.ops f a)
+  value_at_valid f a vf v = on_valid c (λ f. c.Valid (evaluate c.ops f a))
+      (λ F. subst c.Valid (Homomorphisms.evaluate-map H F (a, v)) (evaluate E F (a, v)).1) f vf
 
   pub multiples_from_valid : (n : ℕ) (f : List A) → All c.Valid f → All c.Valid (multiples_from c.ops n f)
   multiples_from_valid n f vf = on_valid c (λ f. All c.Valid (multiples_from c.ops n f))

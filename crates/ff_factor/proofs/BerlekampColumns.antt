@@ -4,21 +4,21 @@ use Rattle.std.proofs.Common.{◌≡◌, ℕ, suc, ◌+◌, ◌*◌, ◌<◌, Li
 use Rattle.std.specs.List.{range_with_len}
 use Rattle.std.proofs.lemmas.List.Elements.{All-nil, All-cons, All-head, All-tail}
 use Rattle.alg_model.specs.Coefficients.{Ops, Carrier, times, power}
-use Rattle.alg_model.specs.Polynomials.{sum, scale, product, trim, poly_power, poly_difference, value_at}
+use Rattle.alg_model.specs.Polynomials.{sum, scale, product, trim, poly_power, poly_difference, evaluate}
 use Rattle.alg_model.specs.Factors.{IsPolynomial, IsMonic}
 use Rattle.alg_model.specs.Fields.{IsField}
-use Rattle.alg_model.specs.Values.{degree, reduced}
+use Rattle.alg_model.specs.Values.{degree, remainder}
 use Rattle.alg_model.specs.Matrices.{combination}
 use Rattle.alg_rings.specs.Laws.{IsPropositional}
 use Rattle.alg_rings.proofs.Lists
 use Rattle.alg_rings.proofs.Homomorphisms
 use Rattle.alg_rings.proofs.Homomorphisms.{Homomorphism}
-use Rattle.alg_rings.proofs.Elements.{Element, value, element_ops, value_homomorphism, on_valid, element_laws}
+use Rattle.alg_rings.proofs.Elements.{Element, underlying, element_ops, underlying_homomorphism, on_valid, element_laws}
 use Rattle.alg_rings.proofs.Validity.{scale_valid, product_valid}
-use Rattle.alg_rings.proofs.Carriers.{trimmed_from_leading}
+use Rattle.alg_rings.proofs.CarrierPolynomials.{trimmed_from_leading}
 use Rattle.alg_rings.proofs.Divisors.{Polynomial, polynomial_ops, same_polynomial}
 use Rattle.alg_divisors.proofs.Euclidean
-use Rattle.alg_divisors.proofs.Fields.{polynomials_euclidean}
+use Rattle.alg_divisors.proofs.EuclideanPolynomials.{polynomials_euclidean}
 use Rattle.alg_rings.proofs.Powers
 use Rattle.alg_model.specs.Coefficients.{IsPrime}
 use Rattle.alg_rings.proofs.Modulo
@@ -28,7 +28,7 @@ use Rattle.alg_fields.proofs.Classes.{class_of}
 use Rattle.alg_fields.proofs.Constants
 use Rattle.alg_fields.proofs.Constants.{constant, alone}
 use Rattle.alg_fields.proofs.Remainders
-use Rattle.alg_fields.proofs.Remainders.{reduced_value, same_as_value, reduced_from_same}
+use Rattle.alg_fields.proofs.Remainders.{remainder_value, same_as_value, remainder_from_same}
 use Rattle.alg_fields.proofs.Generator.{generator, value_at_generator}
 use Rattle.alg_rings.proofs.Divisors.{power_is}
 use Rattle.ff_factor.specs.Certificates.{berlekamp_column}
@@ -46,8 +46,8 @@ module _ {A : Type 0} {c : Carrier A} (P : IsPropositional c) (F : IsField c) wh
   abbrev Q : Ops (Polynomial c)
   Q = polynomial_ops P F.ring
 
-  abbrev H : Homomorphism (element_ops F.ring) c.ops (value c)
-  H = value_homomorphism F.ring
+  abbrev H : Homomorphism (element_ops F.ring) c.ops (underlying c)
+  H = underlying_homomorphism F.ring
 
   abbrev U : Euclidean.EuclideanLaws (polynomial_ops P F.ring) (λ x. length x.0) (λ x. IsMonic c x.0)
   U = polynomials_euclidean P F
@@ -65,7 +65,7 @@ module _ {A : Type 0} {c : Carrier A} (P : IsPropositional c) (F : IsField c) wh
   scale_on_valid : (a : A) (xs : List A) → c.Valid a → All c.Valid xs → product c.ops (a ∷ []) xs ≡ scale c.ops a xs
   scale_on_valid a xs va v = on_valid c (λ xs. product c.ops (a ∷ []) xs ≡ scale c.ops a xs)
       (λ X. sym (Homomorphisms.product-map H ((a, va) ∷ []) X)
-      ∙ ap (map (value c)) (Lists.constant_product (element_laws P F.ring) (a, va) X)
+      ∙ ap (map (underlying c)) (Lists.constant_product (element_laws P F.ring) (a, va) X)
       ∙ Homomorphisms.scale-map H (a, va) X) xs v
 
   abbrev x : Polynomial c
@@ -82,17 +82,17 @@ module _ {A : Type 0} {c : Carrier A} (P : IsPropositional c) (F : IsField c) wh
         (power_of_generator k)
 
     module _ (f : Polynomial c) (not_constant : 1 < length f.0) (monic : IsMonic c f.0) where
-      column_is : (k : ℕ) → reduced c.ops f.0 (gap k).0 ≡ berlekamp_column c.ops p f.0 k
-      column_is k = ap (reduced c.ops f.0) (gap_is k)
+      column_is : (k : ℕ) → remainder c.ops f.0 (gap k).0 ≡ berlekamp_column c.ops p f.0 k
+      column_is k = ap (remainder c.ops f.0) (gap_is k)
 
       -- the remainder of a multiple by a constant
-      reduced_multiple : (a : Element c) (g : Polynomial c) → reduced c.ops f.0 (Q.mul (constant P F.ring a) g).0 ≡ scale c.ops a.0 (reduced c.ops f.0 g.0)
-      reduced_multiple a g =
-          let r = reduced c.ops f.0 g.0 in
-          let vr = reduced_value P F f not_constant monic g in
+      remainder_of_multiple : (a : Element c) (g : Polynomial c) → remainder c.ops f.0 (Q.mul (constant P F.ring a) g).0 ≡ scale c.ops a.0 (remainder c.ops f.0 g.0)
+      remainder_of_multiple a g =
+          let r = remainder c.ops f.0 g.0 in
+          let vr = remainder_value P F f not_constant monic g in
           let vs = scale_valid F.ring a.0 r a.1 vr.0 in
           let vp = product_valid F.ring (a.0 ∷ []) r (alone P F.ring a) vr.0 in
-          reduced_from_same P F f not_constant monic (Q.mul (constant P F.ring a) g) (scale c.ops a.0 r) (vs, Lists.length_scale c.ops a.0 r ∙ vr.1)
+          remainder_from_same P F f not_constant monic (Q.mul (constant P F.ring a) g) (scale c.ops a.0 r) (vs, Lists.length_scale c.ops a.0 r ∙ vr.1)
           (Modulo.same_trans U.ring
           (Modulo.same_from_equal U.ring
           (same_polynomial P F.ring (class_of P F.ring (scale c.ops a.0 r) vs) (class_of P F.ring (product c.ops (a.0 ∷ []) r) vp)
@@ -101,15 +101,15 @@ module _ {A : Type 0} {c : Carrier A} (P : IsPropositional c) (F : IsField c) wh
           (Modulo.same_product U.ring (Modulo.same_itself U.ring f (constant P F.ring a)) (same_as_value P F f not_constant monic g)))
 
       combination_is : (j : ℕ) (X : List (Element c))
-          → combination c.ops (degree f.0) (map (berlekamp_column c.ops p f.0) (range_with_len j (length (map (value c) X)))) (map (value c) X)
-          ≡ reduced c.ops f.0 (gaps Q x (power Q x p) j (map (constant P F.ring) X)).0
+          → combination c.ops (degree f.0) (map (berlekamp_column c.ops p f.0) (range_with_len j (length (map (underlying c) X)))) (map (underlying c) X)
+          ≡ remainder c.ops f.0 (gaps Q x (power Q x p) j (map (constant P F.ring) X)).0
       combination_is j [] = refl
       combination_is j (a ∷ X) =
           let rest : ℕ → Polynomial c = λ i. gaps Q x (power Q x p) i (map (constant P F.ring) X) in
           ap₂ (sum c.ops)
-          (ap (scale c.ops a.0) (sym (column_is j)) ∙ sym (reduced_multiple a (gap j)))
-          (combination_is (j + 1) X ∙ ap (λ i. reduced c.ops f.0 (rest i).0) (add-one j))
-          ∙ sym (Remainders.reduced_sum P F f not_constant monic (Q.mul (constant P F.ring a) (gap j)) (rest (suc j)))
+          (ap (scale c.ops a.0) (sym (column_is j)) ∙ sym (remainder_of_multiple a (gap j)))
+          (combination_is (j + 1) X ∙ ap (λ i. remainder c.ops f.0 (rest i).0) (add-one j))
+          ∙ sym (Remainders.remainder_sum P F f not_constant monic (Q.mul (constant P F.ring a) (gap j)) (rest (suc j)))
 
       module _ (prime : IsPrime p) (characteristic : times (polynomial_ops P F.ring) p (polynomial_ops P F.ring).one ≡ (polynomial_ops P F.ring).zero)
           (fixed : (a : Element c) → power (element_ops F.ring) a p ≡ a) where
@@ -122,21 +122,21 @@ module _ {A : Type 0} {c : Carrier A} (P : IsPropositional c) (F : IsField c) wh
         -- **the columns 1, 2, .. by the coefficients 1, 2, .. of v add up to v^p - v modulo f**
         pub columns_combination : (a : A) (xs : List A) (v : All c.Valid (a ∷ xs))
             → combination c.ops (degree f.0) (map (berlekamp_column c.ops p f.0) (range_with_len 1 (length xs))) xs
-            ≡ reduced c.ops f.0 (Q.add (power Q (class_of P F.ring (a ∷ xs) v) p) (Q.neg (class_of P F.ring (a ∷ xs) v))).0
+            ≡ remainder c.ops f.0 (Q.add (power Q (class_of P F.ring (a ∷ xs) v) p) (Q.neg (class_of P F.ring (a ∷ xs) v))).0
         columns_combination a xs v =
             on_valid c (λ xs. (v : All c.Valid (a ∷ xs)) → combination c.ops (degree f.0) (map (berlekamp_column c.ops p f.0) (range_with_len 1 (length xs))) xs
-            ≡ reduced c.ops f.0 (Q.add (power Q (class_of P F.ring (a ∷ xs) v) p) (Q.neg (class_of P F.ring (a ∷ xs) v))).0)
+            ≡ remainder c.ops f.0 (Q.add (power Q (class_of P F.ring (a ∷ xs) v) p) (Q.neg (class_of P F.ring (a ∷ xs) v))).0)
             at xs (All-tail c.Valid a xs v) v
           where
-            at : (X : List (Element c)) (v : All c.Valid (a ∷ map (value c) X))
-                → combination c.ops (degree f.0) (map (berlekamp_column c.ops p f.0) (range_with_len 1 (length (map (value c) X)))) (map (value c) X)
-                ≡ reduced c.ops f.0 (Q.add (power Q (class_of P F.ring (a ∷ map (value c) X) v) p) (Q.neg (class_of P F.ring (a ∷ map (value c) X) v))).0
+            at : (X : List (Element c)) (v : All c.Valid (a ∷ map (underlying c) X))
+                → combination c.ops (degree f.0) (map (berlekamp_column c.ops p f.0) (range_with_len 1 (length (map (underlying c) X)))) (map (underlying c) X)
+                ≡ remainder c.ops f.0 (Q.add (power Q (class_of P F.ring (a ∷ map (underlying c) X) v) p) (Q.neg (class_of P F.ring (a ∷ map (underlying c) X) v))).0
             at X v =
-                let b : Element c = (a, All-head c.Valid a (map (value c) X) v) in
+                let b : Element c = (a, All-head c.Valid a (map (underlying c) X) v) in
                 let cs = map (constant P F.ring) (b ∷ X) in
                 combination_is 1 X
-                ∙ ap (λ g. reduced c.ops f.0 g.0)
+                ∙ ap (λ g. remainder c.ops f.0 g.0)
                 (Compositions.gaps_without_constant U.ring x (power Q x p) (constant P F.ring b) (map (constant P F.ring) X)
-                ∙ ap (λ w. Q.add w (Q.neg (value_at Q cs x)))
+                ∙ ap (λ w. Q.add w (Q.neg (evaluate Q cs x)))
                 (sym (Compositions.power_of_value U.ring p prime characteristic cs (constants_fixed (b ∷ X)) x))
                 ∙ ap (λ w. Q.add (power Q w p) (Q.neg w)) (value_at_generator P F.ring (b ∷ X) v))

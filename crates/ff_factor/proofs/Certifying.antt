@@ -15,14 +15,14 @@ use Rattle.alg_model.specs.Matrices.{combination, zero_column, IsColumn, IsMatri
 use Rattle.alg_rings.specs.Laws.{IsPropositional}
 use Rattle.alg_rings.proofs.Elements.{Element, element_ops}
 use Rattle.alg_rings.proofs.Trims
-use Rattle.alg_rings.proofs.Carriers
+use Rattle.alg_rings.proofs.CarrierPolynomials
 use Rattle.alg_rings.proofs.Divisors.{Polynomial}
 use Rattle.alg_linear.proofs.Columns.{same_columns, length_zero_column, zero_column_at}
 use Rattle.alg_fields.specs.Fixed.{IsFixed}
 use Rattle.alg_model.specs.Coefficients.{IsPrime}
-use Rattle.alg_fields.proofs.Reduction.{zeros_at}
+use Rattle.alg_fields.proofs.ListRemainders.{zeros_at}
 use Rattle.alg_fields.proofs.Classes
-use Rattle.alg_fields.proofs.Remainders.{reduced_value}
+use Rattle.alg_fields.proofs.Remainders.{remainder_value}
 use Rattle.ff_factor.specs.Certificates.{berlekamp_column, berlekamp_matrix}
 use Rattle.ff_factor.proofs.BerlekampColumns.{variable, variable_polynomial}
 use Rattle.ff_factor.proofs.Criterion.{fixed_from_combination, combination_from_fixed}
@@ -40,10 +40,10 @@ module _ {A : Type 0} {c : Carrier A} (P : IsPropositional c) (F : IsField c) (p
       let vx = variable_polynomial P F in
       let g : Polynomial c = (
         poly_difference c.ops (poly_power c.ops x (k * p)) (poly_power c.ops x k),
-        Carriers.poly_difference_polynomial P F.ring (poly_power c.ops x (k * p)) (poly_power c.ops x k)
-            (Carriers.poly_power_polynomial P F.ring x (k * p) vx) (Carriers.poly_power_polynomial P F.ring x k vx),
+        CarrierPolynomials.poly_difference_polynomial P F.ring (poly_power c.ops x (k * p)) (poly_power c.ops x k)
+            (CarrierPolynomials.poly_power_polynomial P F.ring x (k * p) vx) (CarrierPolynomials.poly_power_polynomial P F.ring x k vx),
       ) in
-      let v = reduced_value P F f not_constant monic g in (v.1, v.0)
+      let v = remainder_value P F f not_constant monic g in (v.1, v.0)
 
   pub matrix_valid : IsMatrix c (berlekamp_matrix c.ops p f.0)
   matrix_valid = All-map (IsColumn c (degree f.0)) (berlekamp_column c.ops p f.0) (range_with_len 1 (degree f.0 - 1)) (λ k d l. column_valid _)
@@ -54,7 +54,7 @@ module _ {A : Type 0} {c : Carrier A} (P : IsPropositional c) (F : IsField c) (p
   -- at most the constant coefficient is left of a list with zeros after it
   length_constant : (a : A) (k : ℕ) → c.Valid a → length (trim c.ops (a ∷ zero_column c.ops k)) ≤ 1
   length_constant a k v =
-      Carriers.length_trim_below P F.ring (a ∷ zero_column c.ops k) 1
+      CarrierPolynomials.length_trim_below P F.ring (a ∷ zero_column c.ops k) 1
       (All-cons c.Valid a (zero_column c.ops k) v (All-replicate c.Valid k c.ops.zero F.ring.zero_valid)) after
     where
       after : (i : ℕ) → 1 ≤ i → slice_index_or (a ∷ zero_column c.ops k) i c.ops.zero ≡ c.ops.zero
@@ -107,7 +107,7 @@ module _ {A : Type 0} {c : Carrier A} (P : IsPropositional c) (F : IsField c) (p
         (ap (λ k. combination c.ops (degree f.0) (map (berlekamp_column c.ops p f.0) (range_with_len 1 k)) x) v.0 ∙ e)
 
     pub kernel_polynomial : IsPolynomial c (trim c.ops (c.ops.zero ∷ x))
-    kernel_polynomial = Carriers.trim_polynomial P F.ring (c.ops.zero ∷ x) vx
+    kernel_polynomial = CarrierPolynomials.trim_polynomial P F.ring (c.ops.zero ∷ x) vx
 
     pub kernel_shorter : length (trim c.ops (c.ops.zero ∷ x)) < length f.0
     kernel_shorter = omega (arith, Trims.length_trim c.ops (c.ops.zero ∷ x), v.0)
@@ -115,7 +115,7 @@ module _ {A : Type 0} {c : Carrier A} (P : IsPropositional c) (F : IsField c) (p
     pub kernel_not_constant : x ≢ zero_column c.ops (degree f.0 - 1) → 1 < length (trim c.ops (c.ops.zero ∷ x))
     kernel_not_constant n = ⊎_elim (λ l. l) (λ l. absurd (n (same_columns c.ops (degree f.0 - 1) x (zero_column c.ops (degree f.0 - 1)) v.0
         (length_zero_column c.ops (degree f.0 - 1))
-        (λ k lk. sym (Carriers.trim_at P F.ring (c.ops.zero ∷ x) (suc k) vx)
+        (λ k lk. sym (CarrierPolynomials.trim_at P F.ring (c.ops.zero ∷ x) (suc k) vx)
         ∙ get_or_past (trim c.ops (c.ops.zero ∷ x)) (suc k) c.ops.zero (omega arith)
         ∙ sym (zero_column_at c.ops (degree f.0 - 1) k lk)))))
         (cases_lt 1 (length (trim c.ops (c.ops.zero ∷ x))))

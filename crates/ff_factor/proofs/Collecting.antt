@@ -12,16 +12,16 @@ use Rattle.alg_model.specs.Coefficients.{residues, mod_ops, IsCharacteristic}
 use Rattle.alg_model.specs.Polynomials.{trim, poly_product}
 use Rattle.alg_model.specs.Factors.{IsPolynomial, IsMonic, IsIrreducible, IsLeastFactor, order_by}
 use Rattle.alg_rings.proofs.ResidueFields.{residues_field, residues_propositional}
-use Rattle.alg_rings.proofs.Carriers
+use Rattle.alg_rings.proofs.CarrierPolynomials
 use Rattle.alg_rings.proofs.Rings.{mul_one}
 use Rattle.alg_rings.proofs.Divisors.{polynomial_laws}
 use Rattle.alg_divisors.specs.Factorization.{IsFactorization}
-use Rattle.alg_rings.proofs.Order.{order_by_total}
+use Rattle.alg_rings.proofs.PolynomialOrder.{order_by_total}
 use Rattle.alg_divisors.proofs.LeastFactors.{least_of_factorization}
 use Rattle.ff_poly.specs.Polynomial.{Polynomial, IsPoly}
 use Rattle.ff_factor.specs.Splitting.{Collects, AreOver, IsCofactor, coefficients_of}
-use Rattle.ff_factor.proofs.Insertion.{sorted_insert, All-insert, map-insert}
-use Rattle.ff_factor.proofs.Factoring
+use Rattle.ff_factor.proofs.ListInsertion.{sorted_insert, All-insert, map-insert}
+use Rattle.ff_factor.proofs.Cofactors
 
 not_less : (o : Ordering) → o ≢ Less → is_lt o ≡ false
 not_less Less n = absurd (n refl)
@@ -56,7 +56,7 @@ module _ (f : Polynomial) (old : List Polynomial) (place : ℕ) (within : place 
         room = omega arith;
         sorted = sorted_place;
         factors = λ g v k. subst (IsFactorization (residues f.prime) (poly_product (mod_ops f.prime) f.coefficients g)) (sym (map-insert key old place f))
-            (Factoring.factorization_insert (residues_propositional f.prime) (residues_field f.prime h) (coefficients_of old) place f.coefficients g m irreducible k);
+            (Cofactors.factorization_insert (residues_propositional f.prime) (residues_field f.prime h) (coefficients_of old) place f.coefficients g m irreducible k);
       }
 
 module _ (f d q : Polynomial) (old middle new : List Polynomial) (h : IsCharacteristic f.prime) (dp : d.prime ≡ f.prime) (qp : q.prime ≡ f.prime)
@@ -74,7 +74,7 @@ module _ (f d q : Polynomial) (old middle new : List Polynomial) (h : IsCharacte
           → IsFactorization (residues f.prime) (poly_product (mod_ops f.prime) f.coefficients g) (coefficients_of new)
       factors g v k =
           let R = (residues_field f.prime h).ring in
-          let vd = Carriers.poly_product_polynomial (residues_propositional f.prime) R d.coefficients g polynomial v in
+          let vd = CarrierPolynomials.poly_product_polynomial (residues_propositional f.prime) R d.coefficients g polynomial v in
           let one = subst (λ p. IsPolynomial (residues p) g → IsFactorization (residues p) g (coefficients_of old)
           → IsFactorization (residues p) (poly_product (mod_ops p) d.coefficients g) (coefficients_of middle)) dp (first.factors g) v k in
           let two = subst (λ p. IsPolynomial (residues p) (poly_product (mod_ops f.prime) d.coefficients g)
@@ -82,7 +82,7 @@ module _ (f d q : Polynomial) (old middle new : List Polynomial) (h : IsCharacte
           → IsFactorization (residues p) (poly_product (mod_ops p) q.coefficients (poly_product (mod_ops f.prime) d.coefficients g)) (coefficients_of new)) qp
           (second.factors (poly_product (mod_ops f.prime) d.coefficients g)) vd one in
           subst (λ w. IsFactorization (residues f.prime) w (coefficients_of new))
-          (sym (Carriers.poly_product_assoc (residues_propositional f.prime) R q.coefficients d.coefficients g cofactor.polynomial.0 polynomial.0 v.0)
+          (sym (CarrierPolynomials.poly_product_assoc (residues_propositional f.prime) R q.coefficients d.coefficients g cofactor.polynomial.0 polynomial.0 v.0)
           ∙ ap (λ w. poly_product (mod_ops f.prime) w g) cofactor.product) two
 
 -- from the empty list
@@ -92,8 +92,8 @@ factorization_collected f old new e whole h =
     let P = residues_propositional f.prime in
     let F = residues_field f.prime whole.characteristic in
     subst (λ w. IsFactorization (residues f.prime) w (coefficients_of new)) (ap (λ g. g.0) (mul_one (polynomial_laws P F.ring) (f.coefficients, whole.polynomial)))
-    (h.factors (trim (mod_ops f.prime) (1 ∷ [])) (Carriers.one_polynomial P F.ring)
-    (subst (λ fs. IsFactorization (residues f.prime) (trim (mod_ops f.prime) (1 ∷ [])) (coefficients_of fs)) (sym e) (Factoring.factorization_none P F)))
+    (h.factors (trim (mod_ops f.prime) (1 ∷ [])) (CarrierPolynomials.one_polynomial P F.ring)
+    (subst (λ fs. IsFactorization (residues f.prime) (trim (mod_ops f.prime) (1 ∷ [])) (coefficients_of fs)) (sym e) (Cofactors.factorization_none P F)))
 
 -- **the first of two or more factors in order is the least factor**
 pub first_is_least : (f : Polynomial) (fs : List Polynomial) → IsCharacteristic f.prime

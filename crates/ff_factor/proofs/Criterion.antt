@@ -14,7 +14,7 @@ use Rattle.alg_fields.specs.Fixed.{IsFixed}
 use Rattle.alg_model.specs.Coefficients.{IsPrime}
 use Rattle.alg_fields.proofs.Derivations.{polynomial_characteristic}
 use Rattle.alg_fields.proofs.Classes.{class_of}
-use Rattle.alg_fields.proofs.Remainders.{divides_iff_reduced}
+use Rattle.alg_fields.proofs.Remainders.{divides_iff_remainder_zero}
 use Rattle.alg_rings.proofs.Divisors.{power_is}
 use Rattle.ff_factor.specs.Certificates.{berlekamp_column}
 use Rattle.ff_factor.proofs.BerlekampColumns
@@ -37,10 +37,10 @@ module _ {A : Type 0} {c : Carrier A} (P : IsPropositional c) (F : IsField c) (p
     gap_is = ap (λ w. poly_difference c.ops w (trim c.ops (a ∷ xs))) (power_is P F.ring (class_of P F.ring (a ∷ xs) v) p)
 
     pub fixed_from_combination : sent ≡ zero_column c.ops (degree f.0) → IsFixed c p f.0 (trim c.ops (a ∷ xs))
-    fixed_from_combination e = subst (Divides c f.0) gap_is ((divides_iff_reduced P F f not_constant monic gap).1
+    fixed_from_combination e = subst (Divides c f.0) gap_is ((divides_iff_remainder_zero P F f not_constant monic gap).1
         (sym (BerlekampColumns.columns_combination P F p f not_constant monic prime (polynomial_characteristic P F.ring p prime characteristic) fixed a xs v) ∙ e))
 
     pub combination_from_fixed : IsFixed c p f.0 (trim c.ops (a ∷ xs)) → sent ≡ zero_column c.ops (degree f.0)
     combination_from_fixed h =
         BerlekampColumns.columns_combination P F p f not_constant monic prime (polynomial_characteristic P F.ring p prime characteristic) fixed a xs v
-        ∙ (divides_iff_reduced P F f not_constant monic gap).0 (subst (Divides c f.0) (sym gap_is) h)
+        ∙ (divides_iff_remainder_zero P F f not_constant monic gap).0 (subst (Divides c f.0) (sym gap_is) h)

@@ -3,7 +3,7 @@ use Rattle.std.proofs.Common.{◌≡◌, ◌↔◌, ℕ, ◌<◌, ◌==◌, cond
 use Rattle.alg_model.specs.Coefficients.{Carrier}
 use Rattle.alg_model.specs.Fields.{IsRing}
 use Rattle.alg_model.specs.Matrices.{Matrix, entry, identity_matrix, IsMatrix}
-use Rattle.alg_linear.proofs.Carriers.{matrix_long, identity_valid, entry_of_identity, delta_value}
+use Rattle.alg_linear.proofs.CarrierMatrices.{matrix_long, identity_valid, entry_of_identity, delta_value}
 use Rattle.alg_linear.proofs.Columns.{AreLong, same_matrices, length_identity}
 
 module _ {A : Type 0} {c : Carrier A} (R : IsRing c) where

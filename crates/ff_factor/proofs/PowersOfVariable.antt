@@ -6,16 +6,16 @@ use Rattle.alg_model.specs.Coefficients.{Ops, mod_ops, residues}
 use Rattle.alg_model.specs.Polynomials.{trim, poly_power}
 use Rattle.alg_model.specs.Factors.{IsMonic, IsDivision}
 use Rattle.alg_model.specs.Fields.{IsField}
-use Rattle.alg_model.specs.Values.{degree, times_x, reduced}
+use Rattle.alg_model.specs.Values.{degree, times_x, remainder}
 use Rattle.alg_model.specs.Matrices.{IsColumn}
 use Rattle.alg_rings.proofs.ResidueFields.{residues_field, residues_propositional, two_le_characteristic}
-use Rattle.alg_rings.proofs.Carriers
-use Rattle.alg_fields.proofs.Remainders.{reduced_value, reduced_one}
+use Rattle.alg_rings.proofs.CarrierPolynomials
+use Rattle.alg_fields.proofs.Remainders.{remainder_value, remainder_one}
 use Rattle.ff_poly.specs.Polynomial.{Polynomial, IsPoly}
 use Rattle.ff_factor.specs.Certificates.{berlekamp_column}
 use Rattle.ff_factor.specs.Splitting.{IsPowerOfVariable, ArePlacesOfPower, residues_modulo}
 use Rattle.ff_factor.proofs.Congruences
-use Rattle.ff_factor.proofs.Shifts.{residues_of_zeros}
+use Rattle.ff_factor.proofs.TimesVariable.{residues_of_zeros}
 
 module _ (f : Polynomial) (whole : IsPoly f) (monic : IsMonic (residues f.prime) f.coefficients) (not_constant : 1 < length f.coefficients) where
   abbrev o : Ops ℕ
@@ -28,7 +28,7 @@ module _ (f : Polynomial) (whole : IsPoly f) (monic : IsMonic (residues f.prime)
   x = 0 ∷ 1 ∷ []
 
   abbrev rest : List ℕ → List ℕ
-  rest g = reduced (mod_ops f.prime) f.coefficients g
+  rest g = remainder (mod_ops f.prime) f.coefficients g
 
   -- by division
   pub power_from_division : (k e : ℕ) (x g : Polynomial) → x.prime ≡ f.prime → x.coefficients ≡ 0 ∷ 1 ∷ [] → e ≡ k * f.prime
@@ -41,7 +41,7 @@ module _ (f : Polynomial) (whole : IsPoly f) (monic : IsMonic (residues f.prime)
         residues = d'.remainder.0;
         short = let s : length g.coefficients < length f.coefficients = d'.smaller in omega arith;
         power =
-            Congruences.reduced_remainder (residues_propositional f.prime) F (f.coefficients, whole.polynomial)
+            Congruences.remainder_from_division (residues_propositional f.prime) F (f.coefficients, whole.polynomial)
             not_constant monic (poly_power o x.coefficients e) q g.coefficients d'
             ∙ ap₂ (λ c n. rest (poly_power o c n)) xc h;
       }
@@ -51,7 +51,7 @@ module _ (f : Polynomial) (whole : IsPoly f) (monic : IsMonic (residues f.prime)
   places_of_one =
       ap₂ ◌∷◌ (mod-eq_of_lt (two_le_characteristic f.prime whole.characteristic))
       (residues_of_zeros f.prime (degree f.coefficients - 1))
-      ∙ sym (reduced_one (residues_propositional f.prime) F (f.coefficients, whole.polynomial) not_constant monic)
+      ∙ sym (remainder_one (residues_propositional f.prime) F (f.coefficients, whole.polynomial) not_constant monic)
 
   pub places_of_next : (e : ℕ) (xs ys : List ℕ) → ArePlacesOfPower f e xs
       → residues_modulo f.prime ys ≡ times_x o f.coefficients (residues_modulo f.prime xs) → ArePlacesOfPower f (suc e) ys
@@ -62,13 +62,13 @@ module _ (f : Polynomial) (whole : IsPoly f) (monic : IsMonic (residues f.prime)
   pub power_from_places : (k : ℕ) (xs c : List ℕ) → ArePlacesOfPower f (k * f.prime) xs → c ≡ residues_modulo f.prime xs → IsPowerOfVariable f k c
   power_from_places k xs c h same =
       let g = poly_power o x (k * f.prime) in
-      let v = reduced_value (residues_propositional f.prime) F (f.coefficients, whole.polynomial) not_constant monic
+      let v = remainder_value (residues_propositional f.prime) F (f.coefficients, whole.polynomial) not_constant monic
       (g, Congruences.power_polynomial (residues_propositional f.prime) F (k * f.prime)) in
       record {
         residues = subst (All (λ y. y < f.prime)) (sym (same ∙ h)) v.0;
         short = omega (arith, ap length (same ∙ h), v.1);
         power = ap rest (same ∙ h)
-            ∙ Congruences.reduced_again (residues_propositional f.prime) F (f.coefficients, whole.polynomial) not_constant monic (rest g) v;
+            ∙ Congruences.remainder_of_itself (residues_propositional f.prime) F (f.coefficients, whole.polynomial) not_constant monic (rest g) v;
       }
 
   -- **a column from the places of the power**
@@ -77,10 +77,10 @@ module _ (f : Polynomial) (whole : IsPoly f) (monic : IsMonic (residues f.prime)
       → x ≡ berlekamp_column (mod_ops f.prime) f.prime f.coefficients k
   column_from_power k g x l power v at =
       Congruences.column_from_places (residues_propositional f.prime) F (f.coefficients, whole.polynomial) not_constant monic f.prime k
-      (trim o g) x (Carriers.trim_polynomial (residues_propositional f.prime) F.ring g power.residues) v
-      (Congruences.reduced_trim (residues_propositional f.prime) F (f.coefficients, whole.polynomial) not_constant monic g power.residues ∙ power.power)
+      (trim o g) x (CarrierPolynomials.trim_polynomial (residues_propositional f.prime) F.ring g power.residues) v
+      (Congruences.remainder_of_trimmed (residues_propositional f.prime) F (f.coefficients, whole.polynomial) not_constant monic g power.residues ∙ power.power)
       (λ i. ⊎_elim (λ li. at i li) (λ li. past i li) (cases_lt i (degree f.coefficients))
-      ∙ ap (λ a. o.add a (o.neg (cond (i == k) 1 0))) (sym (Carriers.trim_at (residues_propositional f.prime) F.ring g i power.residues)))
+      ∙ ap (λ a. o.add a (o.neg (cond (i == k) 1 0))) (sym (CarrierPolynomials.trim_at (residues_propositional f.prime) F.ring g i power.residues)))
     where
       past : (i : ℕ) → degree f.coefficients ≤ i → slice_index x i ≡ o.add (slice_index g i) (o.neg (cond (i == k) 1 0))
       past i li =

@@ -7,7 +7,7 @@ use Rattle.std.specs.Prelude.{◌≡◌, ℕ, ◌-◌, ◌*◌, ◌≤◌, List,
 use Rattle.std.specs.List.{range_with_len}
 use Rattle.alg_model.specs.Coefficients.{Ops, mod_ops}
 use Rattle.alg_model.specs.Polynomials.{poly_power, poly_difference, poly_sum, poly_product, derivative}
-use Rattle.alg_model.specs.Values.{degree, reduced}
+use Rattle.alg_model.specs.Values.{degree, remainder}
 use Rattle.alg_model.specs.Matrices.{Matrix, matrix_product, identity_matrix}
 use Rattle.ff_poly.specs.Polynomial.{Polynomial}
 use Rattle.ff_poly.specs.declared.TheConstants.{MAX_DEGREE}
@@ -16,7 +16,7 @@ use Rattle.ff_factor.specs.declared.certificates.Cert.{Cert}
 module _ {A : Type 0} (o : Ops A) (p : ℕ) (f : List A) where
   abbrev pub berlekamp_column : ℕ → List A
   berlekamp_column k =
-      let x = o.zero ∷ o.one ∷ [] in reduced o f (poly_difference o (poly_power o x (k * p)) (poly_power o x k))
+      let x = o.zero ∷ o.one ∷ [] in remainder o f (poly_difference o (poly_power o x (k * p)) (poly_power o x k))
 
   abbrev pub berlekamp_matrix : Matrix A
   berlekamp_matrix = record { rows = degree f; columns = map berlekamp_column (range_with_len 1 (degree f - 1)) }

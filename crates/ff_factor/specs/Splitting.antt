@@ -14,7 +14,7 @@ use Rattle.std.specs.List.Sorted.{IsSorted}
 use Rattle.std.specs.Ordering.{nat_cmp}
 use Rattle.alg_model.specs.Coefficients.{Carrier, residues, mod_ops}
 use Rattle.alg_model.specs.Polynomials.{poly_product, poly_power}
-use Rattle.alg_model.specs.Values.{degree, reduced}
+use Rattle.alg_model.specs.Values.{degree, remainder}
 use Rattle.alg_model.specs.Factors.{IsPolynomial, IsMonic, IsProperFactor, IsIrreducible, order_by}
 use Rattle.alg_model.specs.Matrices.{Matrix, IsColumn, matrix_apply, zero_column}
 use Rattle.alg_divisors.specs.Factorization.{IsFactorization}
@@ -56,14 +56,14 @@ pub record IsPowerOfVariable (f : Polynomial) (k : ℕ) (c : List ℕ) : Type 0 
   pub residues : All (λ x. x < f.prime) c
   pub short : length c ≤ degree f.coefficients
   pub power : let o = mod_ops f.prime in
-      reduced o f.coefficients c ≡ reduced o f.coefficients (poly_power o (0 ∷ 1 ∷ []) (k * f.prime))
+      remainder o f.coefficients c ≡ remainder o f.coefficients (poly_power o (0 ∷ 1 ∷ []) (k * f.prime))
 
 abbrev pub residues_modulo : ℕ → List ℕ → List ℕ
 residues_modulo p xs = map (λ x. x % p) xs
 
 abbrev pub ArePlacesOfPower : Polynomial → ℕ → List ℕ → Type 0
 ArePlacesOfPower f e xs = let o = mod_ops f.prime in
-    residues_modulo f.prime xs ≡ reduced o f.coefficients (poly_power o (0 ∷ 1 ∷ []) e)
+    residues_modulo f.prime xs ≡ remainder o f.coefficients (poly_power o (0 ∷ 1 ∷ []) e)
 
 pub record Collects (f : Polynomial) (old new : List Polynomial) : Type 0 where
   pub primes : AreOver f.prime new

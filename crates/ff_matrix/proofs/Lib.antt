@@ -1,4 +1,4 @@
-pub mod Steps
-pub mod Forms
-pub mod Spreads
-pub mod Readings
+pub mod RowPlaces
+pub mod EliminatedRows
+pub mod PivotPlaces
+pub mod EchelonConsequences

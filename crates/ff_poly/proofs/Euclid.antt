@@ -11,11 +11,11 @@ use Rattle.alg_rings.specs.Laws.{RingLaws, IsPropositional}
 use Rattle.alg_rings.proofs.Rings
 use Rattle.alg_rings.proofs.Lists.{nil_or_not, length_not_nil, not_nil_from_length, sum_nil, product_nil}
 use Rattle.alg_rings.proofs.Trims.{length_poly_difference}
-use Rattle.alg_rings.proofs.Carriers.{trim_polynomial, poly_product_polynomial, poly_sum_comm, poly_product_assoc, one_poly_product}
-use Rattle.alg_rings.proofs.Elements.{value, element_laws}
+use Rattle.alg_rings.proofs.CarrierPolynomials.{trim_polynomial, poly_product_polynomial, poly_sum_comm, poly_product_assoc, one_poly_product}
+use Rattle.alg_rings.proofs.Elements.{underlying, element_laws}
 use Rattle.alg_rings.proofs.Validity.{leading_valid}
 use Rattle.alg_rings.proofs.Divisors.{Polynomial, polynomial_ops, polynomial_laws, same_polynomial, divides_nil, divides_sum, divides_product, divides_difference, divides_transitive, divides_multiple, length_poly_product, leading_poly_product}
-use Rattle.alg_rings.proofs.Carriers.{constant_trimmed, leading_not_zero}
+use Rattle.alg_rings.proofs.CarrierPolynomials.{constant_trimmed, leading_not_zero}
 
 -- u * a + w * b = g
 pub record Combines {A : Type 0} (o : Ops A) (a b u w g : List A) : Type 0 where
@@ -154,7 +154,7 @@ module _ {A : Type 0} {c : Carrier A} (P : IsPropositional c) (F : IsField c) wh
 
     i_not_zero : i ≢ c.ops.zero
     i_not_zero z = F.one_not_zero (sym inverse ∙ ap (c.ops.mul (leading c.ops g)) z
-        ∙ ap (value c) (Rings.mul_zero (element_laws P F.ring) (leading c.ops g, vl)))
+        ∙ ap (underlying c) (Rings.mul_zero (element_laws P F.ring) (leading c.ops g, vl)))
 
     k_is : k ≡ i ∷ []
     k_is = constant ∙ constant_trimmed P F.ring i vi i_not_zero

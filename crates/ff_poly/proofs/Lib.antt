@@ -2,7 +2,7 @@ pub mod Characteristics
 pub mod ListPlaces
 pub mod Convolutions
 pub mod Quotients
-pub mod Derivatives
+pub mod DerivativePlaces
 pub mod Euclid
-pub mod Remainders
+pub mod ExtendedEuclid
 pub mod PowersModulo

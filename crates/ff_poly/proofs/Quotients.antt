@@ -14,7 +14,7 @@ use Rattle.alg_rings.proofs.Trims.{trim_at, trim_is, length_trim_below}
 use Rattle.alg_rings.proofs.Residues.{nat_ops, zero_test, product_mod, poly_product_mod, residues_ring}
 use Rattle.alg_rings.proofs.ResidueFields.{residues_propositional}
 use Rattle.alg_rings.proofs.Validity.{place_valid}
-use Rattle.alg_rings.proofs.Carriers.{sum_at}
+use Rattle.alg_rings.proofs.CarrierPolynomials.{sum_at}
 use Rattle.ff_poly.proofs.Convolutions.{convolution_nil}
 use Rattle.ff_poly.proofs.ListPlaces.{place_cases}
 

@@ -1,7 +1,7 @@
 //! Evaluation of polynomials.
 ghost use Rattle.std.specs.Prelude.{◌≡◌, ◌<◌};
 ghost use Rattle.alg_model.specs.Coefficients.{mod_ops};
-ghost use Rattle.alg_model.specs.Polynomials.{value_at};
+ghost use Rattle.alg_model.specs.Polynomials.{evaluate};
 
 use crate::{Poly, Prime};
 
@@ -9,7 +9,7 @@ impl Poly {
     /// The value at the residue `c`, by Horner's rule.
     pub fn eval(&self, c: u8) -> u8
         requires { c < self.now.prime }
-        ensures value { result ≡ value_at (mod_ops self.now.prime) self.now.coefficients c }
+        ensures value { result ≡ evaluate (mod_ops self.now.prime) self.now.coefficients c }
         ensures residue { result < self.now.prime }
     {
         value_of(self.prime(), self.coefficients(), c)
@@ -19,7 +19,7 @@ impl Poly {
 // The value of the polynomial with the coefficients f at c.
 fn value_of(p: Prime, f: &[u8], c: u8) -> u8
     requires { c < p }
-    ensures value { result ≡ value_at (mod_ops p) f.now c }
+    ensures value { result ≡ evaluate (mod_ops p) f.now c }
     ensures residue { result < p }
 {
     let number = p.number() as u32;

@@ -1,3 +1,3 @@
-pub mod Numbers
+pub mod NumbersOfPolynomials
 pub mod Search
-mod Tells
+mod TestAnswers

@@ -8,7 +8,7 @@ use Rattle.alg_model.specs.Coefficients.{residues}
 use Rattle.alg_model.specs.Values.{degree}
 use Rattle.alg_model.specs.Factors.{order_by, IsPolynomial, IsMonic, Divides, IsProperFactor, IsIrreducible, IsLeastFactor}
 use Rattle.ff_trial.specs.Numbering.{number_of}
-use Rattle.ff_trial.proofs.Numbers.{number_of-order, number_of-lt, number_of-ge, below_power}
+use Rattle.ff_trial.proofs.NumbersOfPolynomials.{number_of-order, number_of-lt, number_of-ge, below_power}
 use Rattle.std.proofs.Math.Nat.{pow-zero, pow-suc}
 use Rattle.std.proofs.lemmas.Bool.{cases_lt}
 

@@ -4,7 +4,7 @@ use Rattle.std.specs.Prelude.{slice_get}
 use Rattle.std.proofs.lemmas.Bool.{cases_order}
 use Rattle.std.proofs.lemmas.Cmp.{nat_cmp_total}
 use Rattle.alg_divisors.proofs.LeastFactors.{least_factor_unique}
-use Rattle.alg_rings.proofs.Order.{nat_cmp_same}
+use Rattle.alg_rings.proofs.PolynomialOrder.{nat_cmp_same}
 use Rattle.lat_script.specs.declared.commands.Command.{Command}
 use Rattle.lat_script.specs.declared.commands.Command.TheVariants.{Field}
 use Rattle.lat_script.specs.declared.replies.Reply.{Reply}

@@ -1,5 +1,5 @@
 use Rattle.alg_rings.proofs.ResidueFields.{prime_residues_field, residues_propositional}
-use Rattle.alg_divisors.proofs.Polynomials.{factorization_unique}
+use Rattle.alg_divisors.proofs.PolynomialFactors.{factorization_unique}
 use Rattle.alg_divisors.proofs.Finite.{residues_finite}
 use Rattle.alg_divisors.proofs.Existence.{factorization_exists}
 use Rattle.alg_divisors.proofs.factorization_is_unique.Goals as goal

@@ -1,5 +1,5 @@
 use Rattle.alg_rings.proofs.ResidueFields.{prime_residues_field, residues_propositional}
-use Rattle.alg_divisors.proofs.Polynomials.{gcd_exists, gcd_unique, bezout}
+use Rattle.alg_divisors.proofs.PolynomialFactors.{gcd_exists, gcd_unique, bezout}
 use Rattle.alg_divisors.proofs.gcd_is_unique.Goals as goal
 
 pub returns-clause-exists : goal.returns-clause-exists

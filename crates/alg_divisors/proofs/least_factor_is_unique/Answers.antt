@@ -1,7 +1,7 @@
 use Rattle.std.specs.Ordering.{nat_cmp}
 use Rattle.std.proofs.lemmas.Cmp.{nat_cmp_total}
 use Rattle.alg_rings.proofs.ResidueFields.{prime_residues_field, residues_propositional}
-use Rattle.alg_rings.proofs.Order.{nat_cmp_same}
+use Rattle.alg_rings.proofs.PolynomialOrder.{nat_cmp_same}
 use Rattle.alg_divisors.proofs.LeastFactors.{least_factor_unique, least_factor_irreducible, least_of_factorization}
 use Rattle.alg_divisors.proofs.Finite.{residues_finite}
 use Rattle.alg_divisors.proofs.Existence.{least_factor_exists}

@@ -1,6 +1,6 @@
 use Rattle.std.proofs.Common.{arith}
 use Rattle.alg_rings.proofs.ResidueFields.{prime_residues_field, residues_propositional}
-use Rattle.alg_fields.proofs.AtResidues.{size_at_residues, first_power}
+use Rattle.alg_fields.proofs.OverResidues.{size_at_residues, first_power}
 use Rattle.alg_fields.proofs.Certificates.{irreducible_from_certificate, certificate_of_irreducible}
 use Rattle.alg_fields.proofs.FiniteFields.{residues_characteristic}
 use Rattle.alg_fields.proofs.certificate_is_exact.Goals as goal

@@ -1,5 +1,5 @@
 use Rattle.alg_rings.proofs.ResidueFields.{prime_residues_field, residues_propositional}
-use Rattle.alg_fields.proofs.AtResidues.{size_at_residues, characteristic_at_residues, first_power}
+use Rattle.alg_fields.proofs.OverResidues.{size_at_residues, characteristic_at_residues, first_power}
 use Rattle.alg_fields.proofs.Certificates.{derivative_zero_iff, square_divides_derivative}
 use Rattle.alg_fields.proofs.FiniteFields.{residues_characteristic}
 use Rattle.alg_fields.proofs.OnCarriers.{derivative_zero_iff_places}

@@ -1,6 +1,6 @@
 use Rattle.std.proofs.Common.{arith}
 use Rattle.alg_rings.proofs.ResidueFields.{prime_residues_field, residues_propositional}
-use Rattle.alg_fields.proofs.AtResidues.{size_at_residues}
+use Rattle.alg_fields.proofs.OverResidues.{size_at_residues}
 use Rattle.alg_fields.proofs.Certificates.{fixed_splits, fixed_from_factors}
 use Rattle.alg_fields.proofs.fixed_polynomials_split.Goals as goal
 

@@ -1,8 +1,8 @@
 use Rattle.std.proofs.Common.{sym, ap, ◌∙◌}
-use Rattle.alg_rings.proofs.Elements.{value_homomorphism}
+use Rattle.alg_rings.proofs.Elements.{underlying_homomorphism}
 use Rattle.alg_rings.proofs.Homomorphisms.{power-map}
 use Rattle.alg_rings.proofs.ResidueFields.{prime_residues_field, residues_propositional}
-use Rattle.alg_fields.proofs.AtResidues.{ring_at_values, characteristic_at_values}
+use Rattle.alg_fields.proofs.OverResidues.{ring_at_values, characteristic_at_values}
 use Rattle.alg_fields.proofs.FiniteFields.{fermat}
 use Rattle.alg_fields.proofs.OnCarriers.{power_of_sum, power_of_product}
 use Rattle.alg_fields.proofs.ValueFields.{values_propositional}
@@ -17,5 +17,5 @@ returns-clause-products c = λ p h f vf m l a b va vb.
     power_of_product (values_propositional (residues_propositional p) f) (ring_at_values p h f vf m l) a b va vb p
 
 pub returns-clause-residues : goal.returns-clause-residues
-returns-clause-residues c = λ p h a l. sym (power-map (value_homomorphism (prime_residues_field p h).ring) (a, l) p)
+returns-clause-residues c = λ p h a l. sym (power-map (underlying_homomorphism (prime_residues_field p h).ring) (a, l) p)
     ∙ ap (λ x. x.0) (fermat p (prime_residues_field p h).ring h (a, l))

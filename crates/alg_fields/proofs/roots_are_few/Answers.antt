@@ -1,5 +1,5 @@
 use Rattle.alg_rings.proofs.ResidueFields.{prime_residues_field, residues_propositional}
-use Rattle.alg_fields.proofs.AtResidues.{field_at_values}
+use Rattle.alg_fields.proofs.OverResidues.{field_at_values}
 use Rattle.alg_fields.proofs.OnCarriers.{root_bound, root_iff_divides}
 use Rattle.alg_fields.proofs.ValueFields.{values_propositional}
 use Rattle.alg_fields.proofs.roots_are_few.Goals as goal

@@ -1,5 +1,5 @@
 use Rattle.alg_rings.proofs.ResidueFields.{residues_propositional}
-use Rattle.alg_fields.proofs.AtResidues.{field_at_values}
+use Rattle.alg_fields.proofs.OverResidues.{field_at_values}
 use Rattle.alg_fields.proofs.ValueFields.{values_propositional, values_field}
 use Rattle.alg_fields.proofs.values_are_a_field.Goals as goal
 

@@ -1,4 +1,4 @@
-use Rattle.alg_rings.proofs.Order.{order_by_shorter, order_by_longer, order_by_place, order_by_itself}
+use Rattle.alg_rings.proofs.PolynomialOrder.{order_by_shorter, order_by_longer, order_by_place, order_by_itself}
 use Rattle.alg_rings.proofs.order_is_by_length_and_place.Goals as goal
 
 pub returns-clause-shorter : goal.returns-clause-shorter

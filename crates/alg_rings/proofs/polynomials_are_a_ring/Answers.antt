@@ -1,5 +1,5 @@
 use Rattle.alg_rings.proofs.ResidueFields.{prime_residues_field, residues_propositional}
-use Rattle.alg_rings.proofs.Carriers.{polynomials_ring}
+use Rattle.alg_rings.proofs.CarrierPolynomials.{polynomials_ring}
 use Rattle.alg_rings.proofs.polynomials_are_a_ring.Goals as goal
 
 pub returns : goal.returns

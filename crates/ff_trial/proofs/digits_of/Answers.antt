@@ -2,7 +2,7 @@
 use Rattle.std.proofs.Common.{◌<◌, ◌≡◌, ◌++◌, ◌∷◌, [], ◌%◌, arith, ap, ◌∙◌, subst, sym}
 use Rattle.std.specs.Prelude.{All, List, ℕ}
 use Rattle.std.proofs.lemmas.List.Elements.{All-push}
-use Rattle.ff_trial.proofs.Numbers.{digit_more}
+use Rattle.ff_trial.proofs.NumbersOfPolynomials.{digit_more}
 use Rattle.ff_trial.proofs.digits_of.Goals as goal
 
 pub loop-place-preserved : goal.loop-place-preserved

@@ -5,7 +5,7 @@ use Rattle.alg_model.specs.Coefficients.{residues}
 use Rattle.alg_model.specs.Factors.{Divides, IsPolynomial}
 use Rattle.alg_rings.proofs.ResidueFields.{residues_propositional, residues_field}
 use Rattle.alg_rings.proofs.Divisors.{divides_iff_no_remainder}
-use Rattle.ff_trial.proofs.Tells.{is_empty_tells}
+use Rattle.ff_trial.proofs.TestAnswers.{is_empty_tells}
 use Rattle.ff_trial.proofs.divides.Goals as goal
 
 pub returns : goal.returns

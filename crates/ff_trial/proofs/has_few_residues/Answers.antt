@@ -1,7 +1,7 @@
 -- Once a power is above the limit, so is the last one.
 use Rattle.std.proofs.Common.{◌≡◌, ◌*◌, ◌+◌, ◌^◌, ◌∙◌, ap, arith, add-one}
 use Rattle.std.proofs.Math.Nat.{pow-suc}
-use Rattle.ff_trial.proofs.Numbers.{power_above}
+use Rattle.ff_trial.proofs.NumbersOfPolynomials.{power_above}
 use Rattle.ff_trial.proofs.has_few_residues.Goals as goal
 
 pub returns-then-count-gt-TRIAL_LIMIT : goal.returns-then-count-gt-TRIAL_LIMIT

@@ -4,7 +4,7 @@ use Rattle.alg_model.specs.Coefficients.{mod_ops}
 use Rattle.alg_model.specs.Polynomials.{leading}
 use Rattle.alg_rings.proofs.Trims.{leading_at}
 use Rattle.std.specs.Prelude.{IsTrue, ◌↔◌}
-use Rattle.ff_trial.proofs.Tells.{nat_eq_tells}
+use Rattle.ff_trial.proofs.TestAnswers.{nat_eq_tells}
 use Rattle.ff_trial.proofs.is_monic.Goals as goal
 
 pub returns-then-not-is_empty : goal.returns-then-not-is_empty

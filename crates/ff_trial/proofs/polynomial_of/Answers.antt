@@ -1,6 +1,6 @@
 use Rattle.std.proofs.Common.{◌∙◌, ap}
 use Rattle.ff_trial.specs.Numbering.{number_of}
-use Rattle.ff_trial.proofs.Numbers.{number_of-trim}
+use Rattle.ff_trial.proofs.NumbersOfPolynomials.{number_of-trim}
 use Rattle.ff_trial.proofs.polynomial_of.Goals as goal
 
 pub returns-clause-value : goal.returns-clause-value

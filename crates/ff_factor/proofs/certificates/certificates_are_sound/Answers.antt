@@ -1,4 +1,4 @@
-use Rattle.ff_factor.proofs.AtResidues.{certified_irreducible}
+use Rattle.ff_factor.proofs.CriterionOverResidues.{certified_irreducible}
 use Rattle.ff_factor.proofs.certificates.certificates_are_sound.Goals as goal
 
 pub returns : goal.returns

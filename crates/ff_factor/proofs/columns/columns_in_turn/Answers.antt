@@ -8,7 +8,7 @@ use Rattle.alg_model.specs.Values.{degree}
 use Rattle.ff_factor.specs.Certificates.{berlekamp_column}
 use Rattle.ff_factor.specs.Splitting.{ArePlacesOfPower, residues_modulo}
 use Rattle.ff_factor.proofs.PowersOfVariable.{places_of_one, power_from_places}
-use Rattle.ff_factor.proofs.Steps.{refill_whole}
+use Rattle.ff_factor.proofs.GrowingLists.{refill_whole}
 use Rattle.ff_factor.proofs.columns.columns_in_turn.Goals as goal
 use Rattle.ff_factor.proofs.columns.columns_in_turn.Goals.{After-as_slice-in-loop-k}
 

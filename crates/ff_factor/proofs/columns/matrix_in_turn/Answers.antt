@@ -1,7 +1,7 @@
 use Rattle.std.proofs.Common.{◌-◌, length, All, sym, ◌∙◌, subst}
 use Rattle.alg_model.specs.Coefficients.{residues}
 use Rattle.alg_model.specs.Matrices.{IsColumn}
-use Rattle.ff_factor.proofs.AtResidues.{matrix_valid}
+use Rattle.ff_factor.proofs.CriterionOverResidues.{matrix_valid}
 use Rattle.ff_factor.proofs.columns.matrix_in_turn.Goals as goal
 
 pub of_columns-requires-clause-residues : goal.of_columns-requires-clause-residues

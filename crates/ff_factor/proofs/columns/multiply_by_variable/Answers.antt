@@ -1,6 +1,6 @@
 use Rattle.std.proofs.Common.{◌≡◌, ℕ, ◌+◌, ◌-◌, ◌*◌, ◌%◌, ◌<◌, ◌∷◌, length, slice_index, ap, ◌∙◌, arith}
 use Rattle.std.proofs.lemmas.List.Elements.{All-weaker}
-use Rattle.ff_factor.proofs.Shifts.{places_grow, product_by_places}
+use Rattle.ff_factor.proofs.TimesVariable.{places_grow, product_by_places}
 use Rattle.ff_factor.proofs.columns.multiply_by_variable.Goals as goal
 use Rattle.ff_factor.proofs.columns.multiply_by_variable.Goals.{After-loop-i}
 

@@ -1,5 +1,5 @@
 use Rattle.std.proofs.Common.{◌≡◌, ◌+◌, ◌*◌, length, arith, sym, ap, ◌∙◌}
-use Rattle.ff_factor.proofs.Steps.{taken_more}
+use Rattle.ff_factor.proofs.GrowingLists.{taken_more}
 use Rattle.ff_factor.proofs.polynomials.every.Goals as goal
 
 pub loop-at-preserved : goal.loop-at-preserved

@@ -1,4 +1,4 @@
-use Rattle.ff_factor.proofs.AtResidues.{certified_irreducible}
+use Rattle.ff_factor.proofs.CriterionOverResidues.{certified_irreducible}
 use Rattle.ff_factor.proofs.splitting.certificate.Goals as goal
 
 pub returns-clause-irreducible : goal.returns-clause-irreducible

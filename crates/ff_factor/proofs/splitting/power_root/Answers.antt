@@ -3,8 +3,8 @@ use Rattle.alg_model.specs.Coefficients.{mod_ops, residues}
 use Rattle.alg_model.specs.Polynomials.{trim}
 use Rattle.alg_model.specs.Factors.{IsProperFactor}
 use Rattle.alg_rings.proofs.ResidueFields.{residues_field, residues_propositional}
-use Rattle.alg_rings.proofs.Carriers.{trim_at, trim_polynomial}
-use Rattle.ff_factor.proofs.AtResidues.{all_from_places, root_is_factor}
+use Rattle.alg_rings.proofs.CarrierPolynomials.{trim_at, trim_polynomial}
+use Rattle.ff_factor.proofs.CriterionOverResidues.{all_from_places, root_is_factor}
 use Rattle.ff_factor.proofs.splitting.power_root.Goals as goal
 use Rattle.ff_factor.proofs.splitting.power_root.Goals.{After-as_slice}
 

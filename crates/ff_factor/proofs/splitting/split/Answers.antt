@@ -6,7 +6,7 @@ use Rattle.alg_model.specs.Values.{degree}
 use Rattle.alg_model.specs.Matrices.{matrix_product, identity_matrix}
 use Rattle.alg_fields.proofs.Derivatives.{length_derivative}
 use Rattle.ff_factor.specs.Certificates.{berlekamp_column}
-use Rattle.ff_factor.proofs.AtResidues.{derivative_common, gcd_is_one}
+use Rattle.ff_factor.proofs.CriterionOverResidues.{derivative_common, gcd_is_one}
 use Rattle.ff_factor.proofs.splitting.split.Goals as goal
 use Rattle.ff_factor.proofs.splitting.split.Goals.{In-Some}
 

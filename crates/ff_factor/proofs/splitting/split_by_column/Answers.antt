@@ -3,7 +3,7 @@ use Rattle.alg_model.specs.Coefficients.{mod_ops, residues}
 use Rattle.alg_model.specs.Polynomials.{trim}
 use Rattle.alg_model.specs.Factors.{IsPolynomial}
 use Rattle.alg_fields.specs.Fixed.{IsFixed}
-use Rattle.ff_factor.proofs.AtResidues.{kernel_gives_fixed}
+use Rattle.ff_factor.proofs.CriterionOverResidues.{kernel_gives_fixed}
 use Rattle.ff_factor.proofs.splitting.split_by_column.Goals as goal
 use Rattle.ff_factor.proofs.splitting.split_by_column.Goals.{After-without_constant-fixed}
 

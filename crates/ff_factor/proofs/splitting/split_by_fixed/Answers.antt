@@ -2,8 +2,8 @@ use Rattle.std.proofs.Common.{◌≡◌, ◌<◌, ◌≤◌, length, below_more,
 use Rattle.alg_model.specs.Coefficients.{residues}
 use Rattle.alg_model.specs.Factors.{IsPolynomial}
 use Rattle.alg_rings.proofs.ResidueFields.{residues_field, residues_propositional}
-use Rattle.alg_divisors.proofs.Polynomials.{gcd_unique}
-use Rattle.ff_factor.proofs.AtResidues.{common_is_proper, some_common}
+use Rattle.alg_divisors.proofs.PolynomialFactors.{gcd_unique}
+use Rattle.ff_factor.proofs.CriterionOverResidues.{common_is_proper, some_common}
 use Rattle.ff_factor.proofs.splitting.split_by_fixed.Goals as goal
 
 pub returns-then-coefficients-gt1-clause-factor : goal.returns-then-coefficients-gt1-clause-factor

@@ -1,6 +1,6 @@
 use Rattle.std.proofs.Common.{◌∙◌}
 use Rattle.alg_rings.proofs.ResidueFields.{residues_field, residues_propositional}
-use Rattle.alg_rings.proofs.Carriers.{poly_product_comm}
+use Rattle.alg_rings.proofs.CarrierPolynomials.{poly_product_comm}
 use Rattle.ff_factor.proofs.verdicts.judge.Goals as goal
 
 pub returns-in-Divisor : goal.returns-in-Divisor

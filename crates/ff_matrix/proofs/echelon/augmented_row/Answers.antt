@@ -2,7 +2,7 @@ use Rattle.std.proofs.Common.{ℕ, ◌<◌, arith}
 use Rattle.std.proofs.lemmas.List.{length-replicate}
 use Rattle.std.proofs.lemmas.List.Elements.{All-replicate}
 use Rattle.ff_matrix.specs.declared.TheConstants.{MAX_WIDTH}
-use Rattle.ff_matrix.proofs.Steps.{zeros_at}
+use Rattle.ff_matrix.proofs.RowPlaces.{zeros_at}
 use Rattle.ff_matrix.proofs.echelon.augmented_row.Goals as goal
 
 pub loop-k-init : goal.loop-k-init

@@ -1,5 +1,5 @@
 use Rattle.std.proofs.Common.{◌∙◌}
-use Rattle.ff_matrix.proofs.Forms.{reduction_read}
+use Rattle.ff_matrix.proofs.EliminatedRows.{reduction_read}
 use Rattle.ff_matrix.proofs.echelon.echelon_in.Goals as goal
 
 pub returns : goal.returns

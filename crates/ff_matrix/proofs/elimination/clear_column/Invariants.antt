@@ -1,4 +1,4 @@
-use Rattle.ff_matrix.proofs.Steps.{AreClearedBelow}
+use Rattle.ff_matrix.proofs.RowPlaces.{AreClearedBelow}
 use Rattle.ff_matrix.proofs.elimination.clear_column.Given as goal
 
 abbrev pub invariant-loop-i : goal.invariant-loop-i

@@ -1,6 +1,6 @@
 use Rattle.std.proofs.Common.{◌≡◌, ℕ, length, ap, subst, arith}
 use Rattle.ff_matrix.specs.Rows.{Eliminates}
-use Rattle.ff_matrix.proofs.Steps.{eliminates_start}
+use Rattle.ff_matrix.proofs.RowPlaces.{eliminates_start}
 use Rattle.ff_matrix.proofs.elimination.reduce.Goals as goal
 
 pub loop-column-init : goal.loop-column-init

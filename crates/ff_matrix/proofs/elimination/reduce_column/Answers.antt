@@ -1,6 +1,6 @@
 use Rattle.std.proofs.Common.{length, refl, ap, arith}
 use Rattle.std.proofs.lemmas.List.{length-set}
-use Rattle.ff_matrix.proofs.Steps.{swapped_rows, scaled_rows, eliminates_with_pivot, eliminates_without_pivot}
+use Rattle.ff_matrix.proofs.RowPlaces.{swapped_rows, scaled_rows, eliminates_with_pivot, eliminates_without_pivot}
 use Rattle.ff_matrix.proofs.elimination.reduce_column.Goals as goal
 
 pub clear_column-requires-clause-residues : goal.clear_column-requires-clause-residues

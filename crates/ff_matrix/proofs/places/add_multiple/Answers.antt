@@ -1,7 +1,7 @@
 use Rattle.std.proofs.Common.{refl, sym, ◌∙◌, arith}
 use Rattle.alg_model.specs.Coefficients.{mod_ops}
 use Rattle.alg_linear.proofs.Columns.{sum_scale_by_places}
-use Rattle.ff_matrix.proofs.Steps.{added_nothing, done_more}
+use Rattle.ff_matrix.proofs.RowPlaces.{added_nothing, done_more}
 use Rattle.ff_matrix.proofs.places.add_multiple.Goals as goal
 
 pub returns-then-factor-eq0-clause-added : goal.returns-then-factor-eq0-clause-added

@@ -1,6 +1,6 @@
 use Rattle.std.proofs.Common.{get_or}
 use Rattle.alg_model.specs.Coefficients.{mod_ops}
-use Rattle.ff_matrix.proofs.Steps.{AreDone}
+use Rattle.ff_matrix.proofs.RowPlaces.{AreDone}
 use Rattle.ff_matrix.proofs.places.add_multiple.Given as goal
 
 abbrev pub invariant-loop-i : goal.invariant-loop-i

@@ -1,5 +1,5 @@
 use Rattle.std.proofs.Common.{◌≡◌, ℕ, subst, arith}
-use Rattle.ff_matrix.proofs.Spreads.{AreFreeBelow, free_pivot, free_more, free_end}
+use Rattle.ff_matrix.proofs.PivotPlaces.{AreFreeBelow, free_pivot, free_more, free_end}
 use Rattle.ff_matrix.proofs.solutions.free_columns.Goals as goal
 use Rattle.ff_matrix.proofs.solutions.free_columns.Goals.{then-next-pivots+then-pivots-next, else-next-pivots, else-next-pivots-via-then-next-pivots+else-pivots-next, else-next-pivots-via-else-next-pivots}
 

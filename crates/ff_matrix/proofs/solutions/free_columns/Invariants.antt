@@ -1,4 +1,4 @@
-use Rattle.ff_matrix.proofs.Spreads.{AreFreeBelow}
+use Rattle.ff_matrix.proofs.PivotPlaces.{AreFreeBelow}
 use Rattle.ff_matrix.proofs.solutions.free_columns.Given as goal
 
 abbrev pub invariant-loop-k : goal.invariant-loop-k

@@ -4,7 +4,7 @@ use Rattle.arrayvec.proofs.ArrayVecLemmas.{items-with_items}
 use Rattle.alg_model.specs.Coefficients.{mod_ops}
 use Rattle.alg_model.specs.Matrices.{column_at}
 use Rattle.ff_matrix.specs.Rows.{IsKernelColumn}
-use Rattle.ff_matrix.proofs.Spreads.{kernel_column_read}
+use Rattle.ff_matrix.proofs.PivotPlaces.{kernel_column_read}
 use Rattle.ff_matrix.proofs.solutions.kernel_column.Goals as goal
 
 pub returns : goal.returns

@@ -1,6 +1,6 @@
 use Rattle.std.proofs.Common.{ℕ, length, get_or, set, refl, ap, arith, length-set}
 use Rattle.arrayvec.proofs.ArrayVecLemmas.{items-with_items}
-use Rattle.ff_matrix.proofs.Spreads.{spread_more}
+use Rattle.ff_matrix.proofs.PivotPlaces.{spread_more}
 use Rattle.ff_matrix.proofs.solutions.spread.Goals as goal
 
 pub loop-i-preserved : goal.loop-i-preserved

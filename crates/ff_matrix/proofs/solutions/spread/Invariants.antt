@@ -1,4 +1,4 @@
-use Rattle.ff_matrix.proofs.Spreads.{IsSpread}
+use Rattle.ff_matrix.proofs.PivotPlaces.{IsSpread}
 use Rattle.ff_matrix.proofs.solutions.spread.Given as goal
 
 abbrev pub invariant-loop-i : goal.invariant-loop-i

@@ -1,12 +1,12 @@
 use Rattle.std.proofs.Common.{◌≡◌, ◌<◌, ◌≤◌, drop, length}
 use Rattle.alg_model.specs.Coefficients.{mod_ops}
-use Rattle.alg_model.specs.Polynomials.{value_at}
+use Rattle.alg_model.specs.Polynomials.{evaluate}
 use Rattle.ff_poly.proofs.evaluation.value_of.Given as goal
 
 abbrev pub invariant-loop-n : goal.invariant-loop-n
 invariant-loop-n l = record {
   within : l.n ≤ length l.f;
-  horner : l.value ≡ value_at (mod_ops l.number) (drop l.n l.f) l.c;
+  horner : l.value ≡ evaluate (mod_ops l.number) (drop l.n l.f) l.c;
   residue : l.value < l.number;
 }
 

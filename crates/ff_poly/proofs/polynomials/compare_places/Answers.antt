@@ -1,7 +1,7 @@
 use Rattle.std.proofs.Common.{◌≢◌, ℕ, ◌-◌, Equal, sym, ◌∙◌}
 use Rattle.std.specs.Ordering.{nat_cmp}
 use Rattle.std.proofs.lemmas.Cmp.{ranked}
-use Rattle.alg_rings.proofs.Order.{order_by_more, order_by_decided}
+use Rattle.alg_rings.proofs.PolynomialOrder.{order_by_more, order_by_decided}
 use Rattle.ff_poly.proofs.polynomials.compare_places.Goals as goal
 
 unequal : (x y : ℕ) → x ≢ y → nat_cmp x y ≢ Equal

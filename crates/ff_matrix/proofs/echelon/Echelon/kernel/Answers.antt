@@ -1,5 +1,5 @@
 use Rattle.std.proofs.Common.{length, ap, ◌∙◌, arith}
-use Rattle.ff_matrix.proofs.Readings.{kernel_read}
+use Rattle.ff_matrix.proofs.EchelonConsequences.{kernel_read}
 use Rattle.ff_matrix.proofs.echelon.Echelon.kernel.Goals as goal
 
 pub returns : goal.returns

@@ -5,7 +5,7 @@ use Rattle.alg_model.specs.Coefficients.{mod_ops, residues}
 use Rattle.alg_model.specs.Matrices.{matrix_product, identity_matrix, IsMatrix}
 use Rattle.ff_matrix.specs.Echelons.{IsEchelonOf}
 use Rattle.ff_matrix.specs.ModularMatrix.{ModularMatrix}
-use Rattle.ff_matrix.proofs.Readings.{same_width, left_inverse_read, independent_read, dependent_read}
+use Rattle.ff_matrix.proofs.EchelonConsequences.{same_width, left_inverse_read, independent_read, dependent_read}
 use Rattle.ff_matrix.proofs.echelon.Echelon.left_inverse.Goals as goal
 
 pub returns-then-numbers-columns-clause-none : goal.returns-then-numbers-columns-clause-none

@@ -4,7 +4,7 @@ use Rattle.alg_model.specs.Coefficients.{mod_ops, residues}
 use Rattle.alg_model.specs.Matrices.{matrix_apply, IsColumn}
 use Rattle.ff_matrix.specs.Echelons.{IsEchelonOf}
 use Rattle.ff_matrix.specs.ModularMatrix.{ModularMatrix}
-use Rattle.ff_matrix.proofs.Readings.{above_one, same_width, column_of_each, solution_read, no_solution_read}
+use Rattle.ff_matrix.proofs.EchelonConsequences.{above_one, same_width, column_of_each, solution_read, no_solution_read}
 use Rattle.ff_matrix.proofs.echelon.Echelon.solve.Goals as goal
 
 pub returns-then-has_nonzero-clause-none : goal.returns-then-has_nonzero-clause-none

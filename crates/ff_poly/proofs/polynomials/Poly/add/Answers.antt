@@ -5,7 +5,7 @@ use Rattle.alg_model.specs.Polynomials.{sum, poly_sum}
 use Rattle.alg_model.specs.Factors.{IsPolynomial}
 use Rattle.alg_rings.proofs.Residues.{residues_ring}
 use Rattle.alg_rings.proofs.ResidueFields.{residues_propositional}
-use Rattle.alg_rings.proofs.Carriers.{sum_at}
+use Rattle.alg_rings.proofs.CarrierPolynomials.{sum_at}
 use Rattle.ff_poly.proofs.ListPlaces.{cut_at, residue_sum_past}
 use Rattle.ff_poly.proofs.Characteristics.{characteristic_small}
 use Rattle.ff_poly.proofs.polynomials.Poly.add.Goals as goal

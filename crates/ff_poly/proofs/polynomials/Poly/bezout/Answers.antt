@@ -6,7 +6,7 @@ use Rattle.alg_rings.proofs.Lists.{length_not_nil, not_nil_from_length}
 use Rattle.alg_rings.proofs.ResidueFields.{residues_propositional, residues_field}
 use Rattle.ff_poly.specs.Polynomial.{Polynomial}
 use Rattle.ff_poly.proofs.Euclid.{gcd_step}
-use Rattle.ff_poly.proofs.Remainders.{HasPrime, IsNext, IsMonicMultiple, first_line, second_line, start_short, next_line, next_short, monic_gcd, monic_identity, monic_first, monic_second, monic_g}
+use Rattle.ff_poly.proofs.ExtendedEuclid.{HasPrime, IsNext, IsMonicMultiple, first_line, second_line, start_short, next_line, next_short, monic_gcd, monic_identity, monic_first, monic_second, monic_g}
 use Rattle.ff_poly.proofs.polynomials.Poly.bezout.Goals as goal
 
 pub euclid-init : goal.euclid-init

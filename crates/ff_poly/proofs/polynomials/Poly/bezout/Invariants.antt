@@ -1,7 +1,7 @@
 use Rattle.std.proofs.Common.{ℕ, ◌+◌, ◌<◌, List, length}
 use Rattle.alg_model.specs.Coefficients.{residues}
 use Rattle.alg_model.specs.Factors.{IsGreatestCommonDivisor}
-use Rattle.ff_poly.proofs.Remainders.{Line, AreShort}
+use Rattle.ff_poly.proofs.ExtendedEuclid.{Line, AreShort}
 use Rattle.ff_poly.proofs.polynomials.Poly.bezout.Given as goal
 
 abbrev pub invariant-euclid : goal.invariant-euclid

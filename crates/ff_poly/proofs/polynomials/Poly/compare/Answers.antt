@@ -1,6 +1,6 @@
 use Rattle.std.proofs.Common.{length, sym, ap₂, ◌∙◌}
 use Rattle.std.specs.Ordering.{nat_cmp}
-use Rattle.alg_rings.proofs.Order.{order_by_lengths}
+use Rattle.alg_rings.proofs.PolynomialOrder.{order_by_lengths}
 use Rattle.ff_poly.proofs.polynomials.Poly.compare.Goals as goal
 
 pub returns-in_default : goal.returns-in_default

@@ -2,7 +2,7 @@ use Rattle.std.proofs.Common.{◌%◌, ap, sym, ◌∙◌, arith}
 use Rattle.alg_model.specs.Coefficients.{mod_ops}
 use Rattle.alg_model.specs.Polynomials.{derivative}
 use Rattle.ff_poly.proofs.ListPlaces.{cut_at}
-use Rattle.ff_poly.proofs.Derivatives.{derivative_list, derivative_is, derivative_at, derivative_past}
+use Rattle.ff_poly.proofs.DerivativePlaces.{derivative_list, derivative_is, derivative_at, derivative_past}
 use Rattle.ff_poly.proofs.polynomials.Poly.derivative.Goals as goal
 
 pub returns-clause-derivative : goal.returns-clause-derivative

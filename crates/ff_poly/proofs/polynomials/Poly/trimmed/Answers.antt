@@ -3,7 +3,7 @@ use Rattle.alg_model.specs.Coefficients.{residues}
 use Rattle.alg_model.specs.Factors.{IsPolynomial}
 use Rattle.alg_rings.proofs.Residues.{residues_ring}
 use Rattle.alg_rings.proofs.ResidueFields.{residues_propositional}
-use Rattle.alg_rings.proofs.Carriers.{trim_polynomial}
+use Rattle.alg_rings.proofs.CarrierPolynomials.{trim_polynomial}
 use Rattle.ff_poly.specs.Polynomial.{IsPoly}
 use Rattle.ff_poly.proofs.polynomials.Poly.trimmed.Goals as goal
 

@@ -9,14 +9,14 @@ use Rattle.alg_model.specs.Fields.{IsRing}
 use Rattle.alg_model.specs.Matrices.{Matrix, column_at, entry, IsColumn, IsMatrix, IsReduction}
 use Rattle.alg_rings.proofs.Residues.{residues_ring}
 use Rattle.alg_rings.specs.Laws.{IsPropositional, RingLaws}
-use Rattle.alg_rings.proofs.Elements.{Element, element_ops, element_laws, value_injective}
+use Rattle.alg_rings.proofs.Elements.{Element, element_ops, element_laws, underlying_injective}
 use Rattle.alg_linear.proofs.RowOperations
-use Rattle.alg_linear.proofs.Reduction
-use Rattle.alg_linear.proofs.Reduction.{reduced_same}
+use Rattle.alg_linear.proofs.RowReduction
+use Rattle.alg_linear.proofs.RowReduction.{reduced_same}
 use Rattle.alg_linear.proofs.Solutions.{transformed_from_augmented, transformed_same}
-use Rattle.alg_linear.proofs.Carriers.{delta_value}
-use Rattle.alg_linear.proofs.Elimination.{IsEliminated, row_entries}
-use Rattle.alg_linear.proofs.Matrices.{entries}
+use Rattle.alg_linear.proofs.CarrierMatrices.{delta_value}
+use Rattle.alg_linear.specs.InnerElimination.{IsEliminated, row_entries}
+use Rattle.alg_linear.proofs.MatrixEntries.{entries}
 use Rattle.alg_linear.proofs.Echelons.{reduction_lists}
 use Rattle.ff_matrix.specs.declared.TheConstants.{MAX_WIDTH}
 use Rattle.ff_poly.proofs.Characteristics.{characteristic_small}
@@ -60,14 +60,14 @@ reduction_from_rows p h m wm start rows pivots fits v a eliminates =
     reduction_lists P R m form transform wm wf wt pivots count (length_block rows 0 width) count (length_block rows width (length rows) ∙ count)
     (transformed_same B n width M (λ i j. Y i j) (λ i l. Y i (width + l)) (entries R form wf) (entries R transform wt)
     (transformed_from_augmented L n width M X Y
-    (λ i j li lj. value_injective P _ _ (a.left i j li lj))
-    (λ i l li ll. value_injective P _ _ (a.right i l li ll ∙ sym (delta_value R i l)))
+    (λ i j li lj. underlying_injective P _ _ (a.left i j li lj))
+    (λ i l li ll. underlying_injective P _ _ (a.right i l li ll ∙ sym (delta_value R i l)))
     (let Q : ℕ → Type 0 = λ k. RowOperations.RowEquivalent B k X Y in subst Q a.count g.equivalent))
-    (λ i j li lj. value_injective P _ _ (block_entry p rows 0 width i j (omega (arith, count)) lj ∙ ap (λ k. get_or (get_or rows i []) k 0) (omega arith)))
-    (λ i j li lj. value_injective P _ _ (block_entry p rows width (length rows) i j (omega (arith, count)) (omega (arith, count)))))
+    (λ i j li lj. underlying_injective P _ _ (block_entry p rows 0 width i j (omega (arith, count)) lj ∙ ap (λ k. get_or (get_or rows i []) k 0) (omega arith)))
+    (λ i j li lj. underlying_injective P _ _ (block_entry p rows width (length rows) i j (omega (arith, count)) (omega (arith, count)))))
     (reduced_same B n width pivots Y (entries R form wf)
-    (λ i j li lj. value_injective P _ _ (block_entry p rows 0 width i j (omega (arith, count)) lj ∙ ap (λ k. get_or (get_or rows i []) k 0) (omega arith)))
-    (let Q : ℕ → Type 0 = λ k. Reduction.IsReducedTo B k width pivots Y in subst Q a.count g.reduced))
+    (λ i j li lj. underlying_injective P _ _ (block_entry p rows 0 width i j (omega (arith, count)) lj ∙ ap (λ k. get_or (get_or rows i []) k 0) (omega arith)))
+    (let Q : ℕ → Type 0 = λ k. RowReduction.IsReducedTo B k width pivots Y in subst Q a.count g.reduced))
   where
     c : Carrier ℕ
     c = residues p

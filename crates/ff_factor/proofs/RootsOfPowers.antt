@@ -10,12 +10,12 @@ use Rattle.alg_model.specs.Factors.{IsMonic, IsProperFactor}
 use Rattle.alg_model.specs.Fields.{IsField}
 use Rattle.alg_rings.specs.Laws.{RingLaws, IsPropositional}
 use Rattle.alg_rings.proofs.Trims
-use Rattle.alg_rings.proofs.Carriers
+use Rattle.alg_rings.proofs.CarrierPolynomials
 use Rattle.alg_rings.proofs.Homomorphisms
 use Rattle.alg_rings.proofs.Homomorphisms.{Homomorphism}
-use Rattle.alg_rings.proofs.Elements.{Element, value, element_ops, elements, elements_are, value_homomorphism, element_laws, values_valid}
+use Rattle.alg_rings.proofs.Elements.{Element, underlying, element_ops, elements, elements_are, underlying_homomorphism, element_laws, underlying_valid}
 use Rattle.alg_rings.proofs.Divisors.{Polynomial, polynomial_ops, polynomial_laws, same_polynomial}
-use Rattle.alg_divisors.proofs.Polynomials.{divides_to}
+use Rattle.alg_divisors.proofs.PolynomialFactors.{divides_to}
 use Rattle.alg_fields.proofs.OnCarriers
 use Rattle.alg_model.specs.Coefficients.{IsPrime}
 use Rattle.alg_fields.proofs.Derivatives
@@ -48,26 +48,26 @@ module _ {A : Type 0} {c : Carrier A} (P : IsPropositional c) (F : IsField c) (p
   abbrev Q : Ops (Polynomial c)
   Q = polynomial_ops P F.ring
 
-  abbrev H : Homomorphism (element_ops F.ring) c.ops (value c)
-  H = value_homomorphism F.ring
+  abbrev H : Homomorphism (element_ops F.ring) c.ops (underlying c)
+  H = underlying_homomorphism F.ring
 
   power_of_every : (X : List (Element c)) → derivative E X ≡ []
-      → class_of P F.ring (map (value c) X) (values_valid c X) ≡ power Q (class_of P F.ring (map (value c) (every p (λ a. a) 0 X)) (values_valid c (every p (λ a. a) 0 X))) p
+      → class_of P F.ring (map (underlying c) X) (underlying_valid c X) ≡ power Q (class_of P F.ring (map (underlying c) (every p (λ a. a) 0 X)) (underlying_valid c (every p (λ a. a) 0 X))) p
   power_of_every X e =
-      sym (value_at_generator P F.ring X (values_valid c X))
+      sym (value_at_generator P F.ring X (underlying_valid c X))
       ∙ PowerRoots.power_from_derivative L (polynomial_laws P F.ring) (constant_homomorphism P F.ring) p prime characteristic (λ a. a) fixed
       (generator P F.ring) X
       (λ i. Trims.places_of_trim E L.zero_test (raw_derivative E X) [] (sym (Derivatives.derivative_is_trimmed L X) ∙ e) i)
-      ∙ ap (λ g. power Q g p) (value_at_generator P F.ring (every p (λ a. a) 0 X) (values_valid c (every p (λ a. a) 0 X)))
+      ∙ ap (λ g. power Q g p) (value_at_generator P F.ring (every p (λ a. a) 0 X) (underlying_valid c (every p (λ a. a) 0 X)))
 
   -- **the root p**
   pub power_of_root : (f g : Polynomial c) → derivative c.ops f.0 ≡ []
       → ((i : ℕ) → slice_index_or g.0 i c.ops.zero ≡ slice_index_or f.0 (i * p) c.ops.zero) → power Q g p ≡ f
   power_of_root f g e at =
-      ap (λ g. power Q g p) (same_polynomial P F.ring g (class_of P F.ring (map (value c) Y) (values_valid c Y))
-      (sym g.1.1 ∙ Carriers.trim_same P F.ring g.0 (map (value c) Y) g.1.0 (values_valid c Y) places))
+      ap (λ g. power Q g p) (same_polynomial P F.ring g (class_of P F.ring (map (underlying c) Y) (underlying_valid c Y))
+      (sym g.1.1 ∙ CarrierPolynomials.trim_same P F.ring g.0 (map (underlying c) Y) g.1.0 (underlying_valid c Y) places))
       ∙ sym (power_of_every X derivative_zero)
-      ∙ same_polynomial P F.ring (class_of P F.ring (map (value c) X) (values_valid c X)) f (ap (trim c.ops) (elements_are c f.0 f.1.0) ∙ f.1.1)
+      ∙ same_polynomial P F.ring (class_of P F.ring (map (underlying c) X) (underlying_valid c X)) f (ap (trim c.ops) (elements_are c f.0 f.1.0) ∙ f.1.1)
     where
       X : List (Element c)
       X = elements c f.0 f.1.0
@@ -77,15 +77,15 @@ module _ {A : Type 0} {c : Carrier A} (P : IsPropositional c) (F : IsField c) (p
 
       derivative_zero : derivative E X ≡ []
       derivative_zero = nil_from_length (derivative E X)
-          (sym (length-map (derivative E X) (value c))
+          (sym (length-map (derivative E X) (underlying c))
           ∙ ap length (Homomorphisms.derivative-map H X ∙ ap (derivative c.ops) (elements_are c f.0 f.1.0) ∙ e))
 
-      places : (i : ℕ) → slice_index_or g.0 i c.ops.zero ≡ slice_index_or (map (value c) Y) i c.ops.zero
+      places : (i : ℕ) → slice_index_or g.0 i c.ops.zero ≡ slice_index_or (map (underlying c) Y) i c.ops.zero
       places i =
           let z : 0 + i * p ≡ i * p = omega arith in
           at i ∙ ap (λ xs. slice_index_or xs (i * p) c.ops.zero) (sym (elements_are c f.0 f.1.0))
           ∙ sym (Homomorphisms.place-map H X (i * p))
-          ∙ ap (value c) (ap (λ k. slice_index_or X k E.zero) (sym z) ∙ sym (every_at p E.zero (let l : 1 < p = prime.above_one in omega arith) 0 X i))
+          ∙ ap (underlying c) (ap (λ k. slice_index_or X k E.zero) (sym z) ∙ sym (every_at p E.zero (let l : 1 < p = prime.above_one in omega arith) 0 X i))
           ∙ Homomorphisms.place-map H Y i
 
   -- **and a proper factor**
@@ -130,7 +130,7 @@ module _ {A : Type 0} {c : Carrier A} (P : IsPropositional c) (F : IsField c) (p
       twice = mul-le-mul_left m above_one
 
       not_longer : length g.0 ≤ suc m
-      not_longer = subst (λ h. length h ≤ suc m) g.1.1 (Carriers.length_trim_below P F.ring g.0 (suc m) g.1.0
+      not_longer = subst (λ h. length h ≤ suc m) g.1.1 (CarrierPolynomials.length_trim_below P F.ring g.0 (suc m) g.1.0
           (λ k l. at k ∙ get_or_past f.0 (k * p) c.ops.zero (past k l)))
         where
           past : (k : ℕ) → suc m ≤ k → length f.0 ≤ k * p

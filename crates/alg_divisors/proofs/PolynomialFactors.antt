@@ -14,7 +14,7 @@ use Rattle.alg_divisors.proofs.Euclidean
 use Rattle.alg_divisors.proofs.Gcd
 use Rattle.alg_divisors.proofs.Irreducible
 use Rattle.alg_divisors.proofs.Factorization
-use Rattle.alg_divisors.proofs.Fields.{polynomials_euclidean}
+use Rattle.alg_divisors.proofs.EuclideanPolynomials.{polynomials_euclidean}
 
 module _ {A : Type 0} {c : Carrier A} (P : IsPropositional c) (F : IsField c) where
   abbrev Q : Ops (Polynomial c)

@@ -5,23 +5,25 @@ use Rattle.alg_model.specs.Coefficients.{Ops, Carrier}
 use Rattle.alg_model.specs.Fields.{IsRing}
 use Rattle.alg_model.specs.Matrices.{Matrix, column_at, entry, matrix_apply, matrix_product, identity_matrix, IsColumn, IsMatrix}
 use Rattle.alg_rings.specs.Laws.{IsPropositional}
-use Rattle.alg_rings.proofs.Elements.{Element, element_ops, element_laws, value_injective}
-use Rattle.alg_linear.proofs.Grids.{delta, grid_apply, grid_product, apply_same, apply_product}
+use Rattle.alg_rings.proofs.Elements.{Element, element_ops, element_laws, underlying_injective}
+use Rattle.alg_linear.specs.InnerElimination.{grid}
+use Rattle.alg_linear.specs.InnerGrids.{delta, grid_apply, grid_product}
+use Rattle.alg_linear.proofs.Grids.{apply_same, apply_product}
 use Rattle.alg_linear.proofs.Columns.{column_of_product, length_product, length_identity, same_columns, same_matrices}
-use Rattle.alg_linear.proofs.Carriers
+use Rattle.alg_linear.proofs.CarrierMatrices
 
 -- the entries of a matrix, as elements
 abbrev pub entries : {A : Type 0} {c : Carrier A} (R : IsRing c) (m : Matrix A) → IsMatrix c m → ℕ → ℕ → Element c
-entries R m w = Carriers.grid R m.rows m.columns w
+entries R m w = grid R m.rows m.columns w
 
 module _ {A : Type 0} {c : Carrier A} (P : IsPropositional c) (R : IsRing c) where
   -- the places of what a matrix gives
   pub apply_value : (m : Matrix A) (w : IsMatrix c m) (x : List A) (v : IsColumn c (length m.columns) x) (r : ℕ) → r < m.rows
-      → get_or (matrix_apply c.ops m x) r c.ops.zero ≡ (grid_apply (element_ops R) (length m.columns) (entries R m w) (Carriers.places R x v.1) r).0
-  apply_value m w x v r l = Carriers.combination_value R m.rows m.columns w x v r l
+      → get_or (matrix_apply c.ops m x) r c.ops.zero ≡ (grid_apply (element_ops R) (length m.columns) (entries R m w) (CarrierMatrices.places R x v.1) r).0
+  apply_value m w x v r l = CarrierMatrices.combination_value R m.rows m.columns w x v r l
 
   pub apply_valid : (m : Matrix A) → IsMatrix c m → (x : List A) → IsColumn c (length m.columns) x → IsColumn c m.rows (matrix_apply c.ops m x)
-  apply_valid m w x v = Carriers.combination_valid R m.rows m.columns w x v
+  apply_valid m w x v = CarrierMatrices.combination_valid R m.rows m.columns w x v
 
   pub product_value : (a b : Matrix A) (wa : IsMatrix c a) (wb : IsMatrix c b) → b.rows ≡ length a.columns → (i j : ℕ) → i < a.rows → j < length b.columns
       → entry c.ops (matrix_product c.ops a b) i j ≡ (grid_product (element_ops R) (length a.columns) (entries R a wa) (entries R b wb) i j).0
@@ -30,7 +32,7 @@ module _ {A : Type 0} {c : Carrier A} (P : IsPropositional c) (R : IsRing c) whe
       ap (λ x. get_or x i c.ops.zero) (column_of_product c.ops a b j lj)
       ∙ apply_value a wa (column_at b j) v i li
       ∙ ap (λ x. x.0) (apply_same (element_ops R) (length a.columns) (entries R a wa) (entries R a wa)
-      (Carriers.places R (column_at b j) v.1) (λ k. entries R b wb k j) i (λ _ _. refl) (λ k _. value_injective P _ _ refl))
+      (CarrierMatrices.places R (column_at b j) v.1) (λ k. entries R b wb k j) i (λ _ _. refl) (λ k _. underlying_injective P _ _ refl))
 
   -- applying a product is applying twice
   pub product_apply : (a b : Matrix A) → IsMatrix c a → IsMatrix c b → b.rows ≡ length a.columns → (x : List A) → IsColumn c (length b.columns) x
@@ -39,11 +41,11 @@ module _ {A : Type 0} {c : Carrier A} (P : IsPropositional c) (R : IsRing c) whe
       same_columns c.ops a.rows _ _ (apply_valid ab w x vx).0 (apply_valid a wa bx vb).0
       (λ r l. apply_value ab w x vx r l ∙ ap (λ n. (grid_apply B n (entries R ab w) px r).0) (length_product c.ops a b)
       ∙ ap (λ y. y.0) (apply_same B (length b.columns) (entries R ab w) (grid_product B (length a.columns) (entries R a wa) (entries R b wb)) px px r
-      (λ k lk. value_injective P _ _ (product_value a b wa wb e r k l lk)) (λ _ _. refl)
+      (λ k lk. underlying_injective P _ _ (product_value a b wa wb e r k l lk)) (λ _ _. refl)
       ∙ apply_product (element_laws P R) (length a.columns) (length b.columns) (entries R a wa) (entries R b wb) px r
       ∙ apply_same B (length a.columns) (entries R a wa) (entries R a wa) (grid_apply B (length b.columns) (entries R b wb) px)
-      (Carriers.places R bx vb.1) r (λ _ _. refl)
-      (λ k lk. value_injective P _ _ (sym (apply_value b wb x v k (omega arith)))))
+      (CarrierMatrices.places R bx vb.1) r (λ _ _. refl)
+      (λ k lk. underlying_injective P _ _ (sym (apply_value b wb x v k (omega arith)))))
       ∙ sym (apply_value a wa bx vb r l))
     where
       B : Ops (Element c)
@@ -53,13 +55,13 @@ module _ {A : Type 0} {c : Carrier A} (P : IsPropositional c) (R : IsRing c) whe
       ab = matrix_product c.ops a b
 
       w : IsMatrix c ab
-      w = Carriers.product_valid R a b wa wb e
+      w = CarrierMatrices.product_valid R a b wa wb e
 
       vx : IsColumn c (length ab.columns) x
       vx = (v.0 ∙ sym (length_product c.ops a b), v.1)
 
       px : ℕ → Element c
-      px = Carriers.places R x v.1
+      px = CarrierMatrices.places R x v.1
 
       bx : List A
       bx = matrix_apply c.ops b x
@@ -88,7 +90,7 @@ module _ {A : Type 0} {c : Carrier A} (P : IsPropositional c) (R : IsRing c) whe
       → matrix_product c.ops a b ≡ d
   product_from_entries a b d wa wb wd e f g h =
       same_matrices c.ops (matrix_product c.ops a b) d a.rows refl f
-      (Carriers.matrix_long c (matrix_product c.ops a b) (Carriers.product_valid R a b wa wb e))
+      (CarrierMatrices.matrix_long c (matrix_product c.ops a b) (CarrierMatrices.product_valid R a b wa wb e))
       (λ k q l. (wd k q l).0 ∙ f)
       (length_product c.ops a b ∙ sym g)
       (λ i j li lj. let lb : j < length b.columns = omega (arith, length_product c.ops a b) in
@@ -99,8 +101,8 @@ module _ {A : Type 0} {c : Carrier A} (P : IsPropositional c) (R : IsRing c) whe
       → ((i j : ℕ) → i < n → j < n → grid_product (element_ops R) (length a.columns) (entries R a wa) (entries R b wb) i j ≡ delta (element_ops R) i j)
       → matrix_product c.ops a b ≡ identity_matrix c.ops n
   product_is_identity a b wa wb n e f g h =
-      product_from_entries a b (identity_matrix c.ops n) wa wb (Carriers.identity_valid R n) e (sym f) (length_identity c.ops n ∙ sym g)
-      (λ i j li lj. h i j (omega arith) (omega arith) ∙ value_injective P _ _ (sym (Carriers.entry_of_identity R n i j (omega arith) (omega arith))))
+      product_from_entries a b (identity_matrix c.ops n) wa wb (CarrierMatrices.identity_valid R n) e (sym f) (length_identity c.ops n ∙ sym g)
+      (λ i j li lj. h i j (omega arith) (omega arith) ∙ underlying_injective P _ _ (sym (CarrierMatrices.entry_of_identity R n i j (omega arith) (omega arith))))
 
   pub identity_product_entries : (a b : Matrix A) (wa : IsMatrix c a) (wb : IsMatrix c b) (n : ℕ) → b.rows ≡ length a.columns
       → matrix_product c.ops a b ≡ identity_matrix c.ops n
@@ -108,5 +110,5 @@ module _ {A : Type 0} {c : Carrier A} (P : IsPropositional c) (R : IsRing c) whe
   identity_product_entries a b wa wb n e h i j li lj =
       let rows : a.rows ≡ n = ap (λ m. m.rows) h in
       let columns : length b.columns ≡ n = sym (length_product c.ops a b) ∙ ap (λ m. length m.columns) h ∙ length_identity c.ops n in
-      value_injective P _ _ (sym (product_value a b wa wb e i j (omega arith) (omega arith)) ∙ ap (λ m. entry c.ops m i j) h
-      ∙ Carriers.entry_of_identity R n i j li lj)
+      underlying_injective P _ _ (sym (product_value a b wa wb e i j (omega arith) (omega arith)) ∙ ap (λ m. entry c.ops m i j) h
+      ∙ CarrierMatrices.entry_of_identity R n i j li lj)

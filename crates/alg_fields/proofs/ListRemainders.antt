@@ -1,19 +1,19 @@
--- The remainder by a monic polynomial, as `reduced` computes it, on coefficient lists over a commutative ring.
+-- The remainder by a monic polynomial, as `remainder` computes it, on coefficient lists over a commutative ring.
 use Rattle.std.proofs.Common.{eq-or-lt_of_le, ◌≡◌, ℕ, suc, ◌-◌, ◌<◌, ◌≤◌, List, [], ◌∷◌, ◌++◌, length, take, replicate, slice_index_or, refl, ap, ap₂, sym, ◌∙◌, arith, ⊎_elim, length-take, get_or-take}
 use Rattle.std.proofs.lemmas.List.{get_or-replicate, length-replicate, get_or_past}
 use Rattle.std.proofs.lemmas.Bool.{cases_lt}
 use Rattle.alg_model.specs.Coefficients.{Ops}
 use Rattle.alg_model.specs.Polynomials.{sum, scale, shift, product, cons_trimmed, trim, leading}
-use Rattle.alg_model.specs.Values.{degree, padded, times_x, reduced}
+use Rattle.alg_model.specs.Values.{degree, padded, times_x, remainder}
 use Rattle.alg_rings.specs.Laws.{RingLaws}
 use Rattle.alg_rings.proofs.Rings
 use Rattle.alg_rings.proofs.Lists
 use Rattle.alg_rings.proofs.Trims
 
--- the quotient beside `reduced`
+-- the quotient beside `remainder`
 abbrev pub quotient_by : {A : Type 0} → Ops A → List A → List A → List A
 quotient_by o f [] = []
-quotient_by o f (c ∷ g) = slice_index_or (reduced o f g) (degree f - 1) o.zero ∷ quotient_by o f g
+quotient_by o f (c ∷ g) = slice_index_or (remainder o f g) (degree f - 1) o.zero ∷ quotient_by o f g
 
 pub zeros_at : {A : Type 0} (z : A) (n k : ℕ) → slice_index_or (replicate n z) k z ≡ z
 zeros_at z n k =
@@ -31,14 +31,14 @@ module _ {A : Type 0} (o : Ops A) (f : List A) (not_constant : 1 < length f) whe
       length-take (degree f) (sum o (O ∷ r) (scale o t f))
       ∙ omega (arith, Lists.length_sum o (O ∷ r) (scale o t f), Lists.length_scale o t f)
 
-  pub length_reduced : (g : List A) → length (reduced o f g) ≡ degree f
-  length_reduced [] = length-replicate (degree f) O
-  length_reduced (c ∷ g) =
+  pub length_remainder : (g : List A) → length (remainder o f g) ≡ degree f
+  length_remainder [] = length-replicate (degree f) O
+  length_remainder (c ∷ g) =
       omega (
         arith,
-        Lists.length_sum o (padded o (degree f) (c ∷ [])) (times_x o f (reduced o f g)),
+        Lists.length_sum o (padded o (degree f) (c ∷ [])) (times_x o f (remainder o f g)),
         length_padded c,
-        length_times_x (reduced o f g) (length_reduced g),
+        length_times_x (remainder o f g) (length_remainder g),
       )
 
 module _ {A : Type 0} {o : Ops A} (R : RingLaws o) where
@@ -88,10 +88,10 @@ module _ {A : Type 0} {o : Ops A} (R : RingLaws o) where
             (λ h. get_or_past (take (degree f) whole) k O (omega (arith, length-take (degree f) whole)) ∙ sym (above r e k h))
             (cases_lt k (degree f))
 
-    -- **g = quotient * f + reduced g**
-    pub reduced_identity : (g : List A) → trim o (sum o (product o (quotient_by o f g) f) (reduced o f g)) ≡ trim o g
-    reduced_identity [] = Trims.trim_zeros o R.zero_test (replicate (degree f) O) (zeros_at O (degree f))
-    reduced_identity (c ∷ g) = next (quotient_by o f g) (reduced o f g) (length_reduced o f not_constant g) (reduced_identity g)
+    -- **g = quotient * f + remainder g**
+    pub remainder_identity : (g : List A) → trim o (sum o (product o (quotient_by o f g) f) (remainder o f g)) ≡ trim o g
+    remainder_identity [] = Trims.trim_zeros o R.zero_test (replicate (degree f) O) (zeros_at O (degree f))
+    remainder_identity (c ∷ g) = next (quotient_by o f g) (remainder o f g) (length_remainder o f not_constant g) (remainder_identity g)
       where
         gather : (a b x y d : List A) → sum o (sum o a b) (sum o x (sum o y d)) ≡ sum o (sum o a d) (sum o x (sum o y b))
         gather a b x y d =

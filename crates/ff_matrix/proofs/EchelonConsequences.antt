@@ -9,7 +9,8 @@ use Rattle.alg_model.specs.Matrices.{Matrix, column_at, matrix_apply, matrix_pro
 use Rattle.alg_rings.proofs.Residues.{residues_ring}
 use Rattle.alg_linear.proofs.Grids
 use Rattle.alg_linear.proofs.Grids.{delta_same, delta_other}
-use Rattle.alg_linear.proofs.Solutions.{AreFree, rising_few}
+use Rattle.alg_linear.specs.InnerGrids.{AreFree}
+use Rattle.alg_linear.proofs.Solutions.{rising_few}
 use Rattle.alg_linear.proofs.Echelons.{form_rows, form_columns}
 use Rattle.alg_linear.proofs.Kernels
 use Rattle.ff_poly.proofs.Characteristics.{characteristic_small}

@@ -7,7 +7,8 @@ use Rattle.std.proofs.lemmas.Nat.{mul-mod_first}
 use Rattle.alg_model.specs.Coefficients.{Ops, mod_ops}
 use Rattle.alg_model.specs.Polynomials.{sum, scale}
 use Rattle.alg_model.specs.Values.{degree, times_x}
-use Rattle.alg_linear.proofs.Columns.{length_same_sum, length_scaled, same_sum_at, scaled_at, same_columns}
+use Rattle.alg_rings.proofs.Lists.{length_scale}
+use Rattle.alg_linear.proofs.Columns.{length_same_sum, same_sum_at, scaled_at, same_columns}
 use Rattle.ff_factor.specs.Splitting.{residues_modulo}
 
 module _ {A : Type 0} (o : Ops A) (f r : List A) (sizes : length f ≡ length r + 1) where
@@ -15,7 +16,7 @@ module _ {A : Type 0} (o : Ops A) (f r : List A) (sizes : length f ≡ length r 
   multiple = o.neg (slice_index_or r (degree f - 1) o.zero)
 
   long : length (sum o (o.zero ∷ r) (scale o multiple f)) ≡ length f
-  long = length_same_sum o (o.zero ∷ r) (scale o multiple f) (length f) (omega arith) (length_scaled o multiple f)
+  long = length_same_sum o (o.zero ∷ r) (scale o multiple f) (length f) (omega arith) (length_scale o multiple f)
 
   pub length_times_x : length (times_x o f r) ≡ length r
   length_times_x = omega (arith, length-take (degree f) (sum o (o.zero ∷ r) (scale o multiple f)), long)
@@ -24,7 +25,7 @@ module _ {A : Type 0} (o : Ops A) (f r : List A) (sizes : length f ≡ length r 
       ≡ o.add (slice_index_or (o.zero ∷ r) k o.zero) (o.mul (o.neg (slice_index_or r (degree f - 1) o.zero)) (slice_index_or f k o.zero))
   times_x_at k l =
       get_or-take (degree f) (sum o (o.zero ∷ r) (scale o multiple f)) k o.zero (omega arith)
-      ∙ same_sum_at o (o.zero ∷ r) (scale o multiple f) (length f) k (omega arith) (length_scaled o multiple f) (omega arith)
+      ∙ same_sum_at o (o.zero ∷ r) (scale o multiple f) (length f) k (omega arith) (length_scale o multiple f) (omega arith)
       ∙ ap (o.add (slice_index_or (o.zero ∷ r) k o.zero)) (scaled_at o multiple f k (omega arith))
 
 module _ (p : ℕ) where

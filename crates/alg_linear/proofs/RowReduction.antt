@@ -5,17 +5,9 @@ use Rattle.std.proofs.lemmas.List.{get_or_append_left, get_or_push, length_push}
 use Rattle.alg_model.specs.Coefficients.{Ops}
 use Rattle.alg_rings.specs.Laws.{RingLaws}
 use Rattle.alg_rings.proofs.Rings.{mul_zero, zero_mul, add_zero, mul_one}
-use Rattle.alg_linear.proofs.Grids.{delta, delta_same, delta_other}
+use Rattle.alg_linear.specs.InnerGrids.{delta, IsReducedTo}
+use Rattle.alg_linear.proofs.Grids.{delta_same, delta_other}
 use Rattle.alg_linear.proofs.RowOperations.{swap_rows, scale_row, add_row, swapped, swapped_other, swapped_first, swapped_to_first}
-
--- the first m columns of the n rows of X are in reduced row echelon form, with these pivot columns
-pub record IsReducedTo {A : Type 0} (o : Ops A) (n m : ℕ) (pivots : List ℕ) (X : ℕ → ℕ → A) : Type 0 where
-  pub rising : (i j : ℕ) → i < j → j < length pivots → get_or pivots i 0 < get_or pivots j 0
-  pub within : (i : ℕ) → i < length pivots → get_or pivots i 0 < m
-  pub rows_enough : length pivots ≤ n
-  pub pivot_column : (r i : ℕ) → r < n → i < length pivots → X r (get_or pivots i 0) ≡ delta o r i
-  pub before_pivot : (i k : ℕ) → i < length pivots → k < get_or pivots i 0 → X i k ≡ o.zero
-  pub rest_zero : (r k : ℕ) → length pivots ≤ r → r < n → k < m → X r k ≡ o.zero
 
 pub reduced_start : {A : Type 0} (o : Ops A) (n : ℕ) (X : ℕ → ℕ → A) → IsReducedTo o n 0 [] X
 reduced_start o n X = record {

@@ -10,9 +10,9 @@ use Rattle.alg_rings.specs.Laws.{FieldLaws, IsPropositional}
 use Rattle.alg_rings.proofs.Rings
 use Rattle.alg_rings.proofs.Trims
 use Rattle.alg_rings.proofs.Homomorphisms.{trim-map, leading-map}
-use Rattle.alg_rings.proofs.Elements.{value, element_ops, value_homomorphism, value_injective, on_valid, element_field}
+use Rattle.alg_rings.proofs.Elements.{underlying, element_ops, underlying_homomorphism, underlying_injective, on_valid, element_field}
 use Rattle.alg_rings.proofs.Validity.{leading_valid}
-use Rattle.alg_rings.proofs.Carriers.{trimmed_elements, constant_trimmed, leading_not_zero}
+use Rattle.alg_rings.proofs.CarrierPolynomials.{trimmed_elements, constant_trimmed, leading_not_zero}
 use Rattle.alg_rings.proofs.Divisors.{Polynomial, polynomial_ops, polynomial_laws, same_polynomial, length_poly_product, leading_poly_product, division}
 use Rattle.alg_divisors.proofs.Euclidean.{EuclideanLaws}
 
@@ -55,7 +55,7 @@ module _ {A : Type 0} {c : Carrier A} (P : IsPropositional c) (F : IsField c) wh
     where
       not_zero : i.0 ≢ c.ops.zero
       not_zero z = F.one_not_zero (sym i.2 ∙ ap (c.ops.mul (leading c.ops a.0)) z
-          ∙ ap (value c) (Rings.mul_zero L.ring (leading c.ops a.0, leading_valid F.ring a.0 a.1.0)))
+          ∙ ap (underlying c) (Rings.mul_zero L.ring (leading c.ops a.0, leading_valid F.ring a.0 a.1.0)))
 
       u : IsPolynomial c (i.0 ∷ [])
       u = (All-cons c.Valid i.0 [] i.1 (All-nil c.Valid), constant_trimmed P F.ring i.0 i.1 not_zero)

@@ -3,11 +3,11 @@ use Rattle.std.proofs.Common.{◌≡◌, ◌≢◌, ◌⊎◌, ℕ, ◌+◌, ◌
 use Rattle.std.proofs.lemmas.Bool.{cases_eq, cases_lt}
 use Rattle.std.proofs.lemmas.List.{length-set, get_or-set_same, get_or-set_other, length-replicate, get_or_append_left, get_or_push, length_push, get_or-map}
 use Rattle.std.proofs.lemmas.List.Elements.{All-set, All-replicate}
-use Rattle.alg_linear.proofs.Solutions.{AreFree}
+use Rattle.alg_linear.specs.InnerGrids.{AreFree}
 use Rattle.alg_model.specs.Coefficients.{mod_ops, residues}
 use Rattle.alg_model.specs.Matrices.{Matrix, column_at, IsMatrix}
 use Rattle.ff_matrix.specs.Rows.{ArePlaces, IsKernelColumn}
-use Rattle.ff_matrix.proofs.Steps.{zeros_at}
+use Rattle.ff_matrix.proofs.RowPlaces.{zeros_at}
 
 -- the first i values stand at their places among n, and the other places are zero
 pub record IsSpread (n : ℕ) (places values numbers : List ℕ) (i : ℕ) : Type 0 where

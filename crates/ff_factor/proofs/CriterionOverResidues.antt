@@ -15,7 +15,7 @@ use Rattle.alg_rings.proofs.Rings
 use Rattle.alg_rings.proofs.Trims
 use Rattle.alg_rings.proofs.Lists.{product_nil}
 use Rattle.alg_rings.proofs.Validity.{place_valid}
-use Rattle.alg_rings.proofs.Carriers
+use Rattle.alg_rings.proofs.CarrierPolynomials
 use Rattle.alg_rings.proofs.Divisors.{polynomial_laws, same_polynomial, length_divisor}
 use Rattle.alg_divisors.specs.Factorization.{AreCoprime}
 use Rattle.alg_linear.proofs.Kernels.{independent_from_left}
@@ -24,7 +24,7 @@ use Rattle.alg_fields.proofs.Derivatives.{length_derivative}
 use Rattle.alg_rings.proofs.Primes.{characteristic_is_prime}
 use Rattle.alg_model.specs.Coefficients.{IsPrime}
 use Rattle.alg_fields.proofs.FiniteFields.{residues_characteristic}
-use Rattle.alg_fields.proofs.AtResidues.{size_at_residues}
+use Rattle.alg_fields.proofs.OverResidues.{size_at_residues}
 use Rattle.alg_fields.proofs.Certificates.{irreducible_from_certificate, fixed_splits}
 use Rattle.ff_poly.specs.Polynomial.{IsPoly}
 use Rattle.ff_poly.specs.Polynomial as poly
@@ -33,7 +33,7 @@ use Rattle.ff_factor.specs.declared.certificates.Cert.{Cert}
 use Rattle.ff_factor.specs.Certificates.{berlekamp_column, berlekamp_matrix, Certifies}
 use Rattle.ff_factor.specs.Splitting.{IsNonzeroKernelColumn}
 use Rattle.ff_factor.proofs.Certifying
-use Rattle.ff_factor.proofs.PowerRoots
+use Rattle.ff_factor.proofs.RootsOfPowers
 
 module _ (p : ℕ) (h : IsCharacteristic p) where
   abbrev P : IsPropositional (residues p)
@@ -54,7 +54,7 @@ module _ (p : ℕ) (h : IsCharacteristic p) where
   -- the polynomial with the coefficients at 0, p, 2 p, .. of one with derivative zero
   pub root_is_factor : (f g : List ℕ) → IsPolynomial (residues p) f → IsPolynomial (residues p) g → IsMonic (residues p) f → 1 < length f
       → derivative (mod_ops p) f ≡ [] → ((i : ℕ) → slice_index g i ≡ slice_index f (i * p)) → IsProperFactor (residues p) f g
-  root_is_factor f g vf vg m l e at = PowerRoots.root_is_factor P F p prime characteristic fixed (f, vf) (g, vg) m l e at
+  root_is_factor f g vf vg m l e at = RootsOfPowers.root_is_factor P F p prime characteristic fixed (f, vf) (g, vg) m l e at
 
   module _ (f : List ℕ) (v : IsPolynomial (residues p) f) (monic : IsMonic (residues p) f) (not_constant : 1 < length f) where
     pub matrix_valid : IsMatrix (residues p) (berlekamp_matrix (mod_ops p) p f)
@@ -103,7 +103,7 @@ module _ (p : ℕ) (h : IsCharacteristic p) where
   less_not_nil v a vv la l z =
       let P = residues_propositional p in
       let vc : IsPolynomial (residues p) (trim (mod_ops p) (a ∷ [])) =
-      Carriers.trim_polynomial P R (a ∷ []) (All-cons (λ x. x < p) a [] la (All-nil (λ x. x < p))) in
+      CarrierPolynomials.trim_polynomial P R (a ∷ []) (All-cons (λ x. x < p) a [] la (All-nil (λ x. x < p))) in
       let same = ap (λ g. g.0) (Rings.same_from_difference (polynomial_laws P R) (v, vv) (trim (mod_ops p) (a ∷ []), vc) (same_polynomial P R _ _ z)) in
       absurd (omega (arith, ap length same, Trims.length_trim (mod_ops p) (a ∷ [])))
 

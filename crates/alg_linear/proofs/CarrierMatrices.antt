@@ -10,8 +10,11 @@ use Rattle.alg_model.specs.Fields.{IsRing}
 use Rattle.alg_model.specs.Matrices.{Matrix, column_at, entry, zero_column, unit_column, combination, matrix_product, identity_matrix, IsColumn, IsMatrix}
 use Rattle.alg_rings.proofs.Validity.{place_valid}
 use Rattle.alg_rings.proofs.Elements.{Element, element_ops}
-use Rattle.alg_linear.proofs.Sums.{total, total_same}
-use Rattle.alg_linear.proofs.Grids.{delta, grid_apply}
+use Rattle.alg_rings.proofs.ValidEntries.{columns_valid_at}
+use Rattle.alg_linear.specs.InnerElimination.{grid}
+use Rattle.alg_linear.specs.InnerGrids.{total}
+use Rattle.alg_linear.proofs.Sums.{total_same}
+use Rattle.alg_linear.specs.InnerGrids.{delta, grid_apply}
 use Rattle.alg_linear.proofs.Columns.{AreLong, length_combination, combination_at, length_zero_column, zero_column_at, length_unit_column, unit_column_at, column_of_product, column_of_identity, length_identity, length_product}
 
 -- all columns of a matrix have its number of rows
@@ -22,17 +25,9 @@ pub columns_long : {A : Type 0} (c : Carrier A) (n : ℕ) (cs : List (List A)) �
 columns_long c n cs w = λ k d l. (w k d l).0
 
 module _ {A : Type 0} {c : Carrier A} (R : IsRing c) where
-  pub columns_valid_at : (n : ℕ) (cs : List (List A)) → All (IsColumn c n) cs → (i j : ℕ) → c.Valid (get_or (get_or cs j []) i c.ops.zero)
-  columns_valid_at n cs w i j = ⊎_elim (λ l. place_valid R (get_or cs j []) i (w j [] l).1)
-      (λ l. subst (λ x. c.Valid (get_or x i c.ops.zero)) (sym (get_or_past cs j [] l)) R.zero_valid) (cases_lt j (length cs))
-
   -- the places of a column, as elements; zero past its end
   abbrev pub places : (x : List A) → All c.Valid x → ℕ → Element c
   places x v k = (get_or x k c.ops.zero, place_valid R x k v)
-
-  -- the entries of columns, as elements
-  abbrev pub grid : (n : ℕ) (cs : List (List A)) → All (IsColumn c n) cs → ℕ → ℕ → Element c
-  grid n cs w i j = (get_or (get_or cs j []) i c.ops.zero, columns_valid_at n cs w i j)
 
   -- the column with these n places
   abbrev pub column_of : ℕ → (ℕ → Element c) → List A
@@ -93,16 +88,16 @@ module _ {A : Type 0} {c : Carrier A} (R : IsRing c) where
 
   -- ---- places of what a matrix gives
   pub combination_value : (n : ℕ) (cs : List (List A)) (w : All (IsColumn c n) cs) (x : List A) (v : IsColumn c (length cs) x) (r : ℕ) → r < n
-      → get_or (combination c.ops n cs x) r c.ops.zero ≡ (grid_apply (element_ops R) (length cs) (grid n cs w) (places x v.1) r).0
+      → get_or (combination c.ops n cs x) r c.ops.zero ≡ (grid_apply (element_ops R) (length cs) (grid R n cs w) (places x v.1) r).0
   combination_value n cs w x v r l =
       combination_at c.ops n cs x (columns_long c n cs w) v.0 r l
-      ∙ total_same c.ops (length cs) _ _ (λ k _. R.mul_comm _ _ (place_valid R x k v.1) (columns_valid_at n cs w r k))
-      ∙ sym (total_value (length cs) (λ k. (element_ops R).mul (grid n cs w r k) (places x v.1 k)))
+      ∙ total_same c.ops (length cs) _ _ (λ k _. R.mul_comm _ _ (place_valid R x k v.1) (columns_valid_at R n cs w r k))
+      ∙ sym (total_value (length cs) (λ k. (element_ops R).mul (grid R n cs w r k) (places x v.1 k)))
 
   pub combination_valid : (n : ℕ) (cs : List (List A)) → All (IsColumn c n) cs → (x : List A) → IsColumn c (length cs) x
       → IsColumn c n (combination c.ops n cs x)
   combination_valid n cs w x v =
-      valid_from_at n (combination c.ops n cs x) (grid_apply (element_ops R) (length cs) (grid n cs w) (places x v.1))
+      valid_from_at n (combination c.ops n cs x) (grid_apply (element_ops R) (length cs) (grid R n cs w) (places x v.1))
       (length_combination c.ops n cs x (columns_long c n cs w)) (combination_value n cs w x v)
 
   pub product_valid : (a b : Matrix A) → IsMatrix c a → IsMatrix c b → b.rows ≡ length a.columns → IsMatrix c (matrix_product c.ops a b)

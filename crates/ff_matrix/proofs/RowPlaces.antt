@@ -12,7 +12,8 @@ use Rattle.alg_model.specs.Polynomials.{sum, scale}
 use Rattle.alg_model.specs.Matrices.{IsColumn}
 use Rattle.alg_rings.proofs.Residues.{residues_ring}
 use Rattle.alg_rings.proofs.ResidueFields.{residues_propositional}
-use Rattle.alg_linear.proofs.Columns.{length_scaled, sum_scale_by_places}
+use Rattle.alg_rings.proofs.Lists.{length_scale}
+use Rattle.alg_linear.proofs.Columns.{sum_scale_by_places}
 use Rattle.alg_linear.proofs.RowOperations.{swapped, swapped_first, swapped_below}
 use Rattle.alg_linear.proofs.Elimination.{IsPivotStep, eliminated_start, eliminated_with_pivot, eliminated_without_pivot, swap_at}
 use Rattle.ff_matrix.specs.declared.TheConstants.{MAX_WIDTH}
@@ -60,7 +61,7 @@ swapped_rows p r s rows lr ls v = All-from_get_or (IsColumn (residues p) MAX_WID
 pub scaled_rows : (p u r : ℕ) (rows : List (List ℕ)) (row : List ℕ) → r < length rows → AreRows p rows
     → row ≡ scale (mod_ops p) u (get_or rows r []) → All (λ x. x < p) row → AreRows p (set rows r row)
 scaled_rows p u r rows row lr v e w = All-set (IsColumn (residues p) MAX_WIDTH) rows r row
-    (ap length e ∙ length_scaled (mod_ops p) u (get_or rows r []) ∙ (v r [] lr).0, w) v
+    (ap length e ∙ length_scale (mod_ops p) u (get_or rows r []) ∙ (v r [] lr).0, w) v
 
 -- a swap, a multiple and a clearing make a step of the elimination
 pivot_step : (p m r s u : ℕ) (rows new : List (List ℕ)) (row : List ℕ) → r < length rows → s < length rows

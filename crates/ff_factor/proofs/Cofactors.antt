@@ -10,15 +10,15 @@ use Rattle.alg_model.specs.Fields.{IsField}
 use Rattle.alg_rings.specs.Laws.{IsPropositional, polynomials}
 use Rattle.alg_rings.proofs.Elements.{on_valid₂}
 use Rattle.alg_rings.proofs.Lists.{sum_nil}
-use Rattle.alg_rings.proofs.Carriers
+use Rattle.alg_rings.proofs.CarrierPolynomials
 use Rattle.alg_rings.proofs.Divisors
 use Rattle.alg_rings.proofs.Divisors.{Polynomial, polynomial_laws}
 use Rattle.alg_divisors.specs.Factorization.{product_of, IsFactorization}
 use Rattle.alg_divisors.proofs.Factorization.{product_middle}
-use Rattle.alg_divisors.proofs.Fields.{polynomials_euclidean}
-use Rattle.alg_divisors.proofs.Polynomials.{product_of-map}
+use Rattle.alg_divisors.proofs.EuclideanPolynomials.{polynomials_euclidean}
+use Rattle.alg_divisors.proofs.PolynomialFactors.{product_of-map}
 use Rattle.ff_factor.specs.Splitting.{IsCofactor}
-use Rattle.ff_factor.proofs.Insertion.{All-insert}
+use Rattle.ff_factor.proofs.ListInsertion.{All-insert}
 
 module _ {A : Type 0} {c : Carrier A} (P : IsPropositional c) (F : IsField c) where
   -- a factor in the middle may stand first
@@ -73,7 +73,7 @@ module _ {A : Type 0} {c : Carrier A} (P : IsPropositional c) (F : IsField c) wh
       product : poly_product c.ops q g ≡ f
       product =
           sym (ap (trim c.ops) (sum_nil c.ops (poly_product c.ops q g))
-          ∙ (Carriers.poly_product_polynomial P F.ring q g division.quotient factor.polynomial).1)
+          ∙ (CarrierPolynomials.poly_product_polynomial P F.ring q g division.quotient factor.polynomial).1)
           ∙ ap (poly_sum c.ops (poly_product c.ops q g)) (sym none) ∙ division.identity
 
       not_nil : q ≢ []

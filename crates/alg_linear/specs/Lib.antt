@@ -1,0 +1,2 @@
+pub mod InnerGrids
+pub mod InnerElimination
