@@ -31,7 +31,7 @@ use Rattle.ff_poly.specs.Polynomial as poly
 use Rattle.ff_matrix.specs.ModularMatrix.{IsModularMatrix}
 use Rattle.ff_factor.specs.declared.certificates.Cert.{Cert}
 use Rattle.ff_factor.specs.Certificates.{berlekamp_column, berlekamp_matrix, Certifies}
-use Rattle.ff_factor.specs.Splitting.{IsNonzeroKernelColumn}
+use Rattle.ff_factor.specs.InnerSplitting.{IsNonzeroKernelColumn}
 use Rattle.ff_factor.proofs.Certifying
 use Rattle.ff_factor.proofs.RootsOfPowers
 
@@ -78,14 +78,14 @@ certified_irreducible f cert whole monic not_constant wu ww wl k =
     irreducible_from_parts f.prime whole.characteristic f.coefficients whole.polynomial monic not_constant (record {
       first = cert.u.coefficients;
       second = cert.w.coefficients;
-      first_polynomial = subst (λ p. IsPolynomial (residues p) cert.u.coefficients) k.primes.0 wu.polynomial;
-      second_polynomial = subst (λ p. IsPolynomial (residues p) cert.w.coefficients) k.primes.1 ww.polynomial;
+      first_polynomial = subst (λ p. IsPolynomial (residues p) cert.u.coefficients) k.shape.primes.0 wu.polynomial;
+      second_polynomial = subst (λ p. IsPolynomial (residues p) cert.w.coefficients) k.shape.primes.1 ww.polynomial;
       identity = k.separable;
     })
     (independent_from_left (residues_propositional f.prime) (residues_field f.prime whole.characteristic).ring B cert.left.matrix
     (matrix_valid f.prime whole.characteristic f.coefficients whole.polynomial monic not_constant)
-    (subst (λ p. IsMatrix (residues p) cert.left.matrix) k.primes.2 wl.entries)
-    (sym k.columns) (k.left_inverse ∙ ap (identity_matrix (mod_ops f.prime)) (sym (length-map-range_with_len _ 1 (degree f.coefficients - 1)))))
+    (subst (λ p. IsMatrix (residues p) cert.left.matrix) k.shape.primes.2 wl.entries)
+    (sym k.shape.columns) (k.left_inverse ∙ ap (identity_matrix (mod_ops f.prime)) (sym (length-map-range_with_len _ 1 (degree f.coefficients - 1)))))
   where
     B : Matrix ℕ
     B = berlekamp_matrix (mod_ops f.prime) f.prime f.coefficients

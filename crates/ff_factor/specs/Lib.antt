@@ -1,3 +1,3 @@
 pub mod Certificates
-pub mod Splitting
-pub mod Verdicts
+pub mod FactorLists
+pub mod InnerSplitting

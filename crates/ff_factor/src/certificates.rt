@@ -8,7 +8,7 @@ ghost use Rattle.alg_model.specs.Matrices.{entry, matrix_product, identity_matri
 ghost use Rattle.ff_poly.specs.Polynomial.{Polynomial, IsPoly};
 ghost use Rattle.ff_matrix.specs.ModularMatrix.{IsModularMatrix};
 ghost use Rattle.ff_factor.specs.Certificates.{Certifies, berlekamp_matrix};
-ghost use Rattle.ff_factor.specs.Splitting.{HasShape};
+ghost use Rattle.ff_factor.specs.Certificates.{HasShape};
 
 use crate::columns::matrix_by_powers;
 use ff_matrix::Matrix;

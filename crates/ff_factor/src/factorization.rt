@@ -6,9 +6,10 @@ ghost use Rattle.alg_model.specs.Coefficients.{residues, IsCharacteristic};
 ghost use Rattle.alg_model.specs.Factors.{IsMonic, IsIrreducible, IsProperFactor, order_by};
 ghost use Rattle.alg_divisors.specs.Factorization.{IsFactorization};
 ghost use Rattle.ff_poly.specs.Polynomial.{Polynomial};
-ghost use Rattle.ff_factor.specs.Splitting.{AreOver, Collects, IsCofactor, coefficients_of};
+ghost use Rattle.ff_factor.specs.FactorLists.{AreOver, coefficients_of};
+ghost use Rattle.ff_factor.specs.InnerSplitting.{Collects, IsCofactor};
 
-use crate::splitting::{Outcome, split};
+use crate::splitting::{Finding, split};
 use arrayvec::ArrayVec;
 use ff_poly::{MAX_DEGREE, Poly};
 use std::cmp::Ordering;
@@ -86,8 +87,8 @@ pub(crate) fn collect(f: &Poly, list: &mut FactorList)
     ensures { Collects f.now list.old list.new }
 {
     match split(f) {
-        Outcome::Irreducible(_) => list.add(f),
-        Outcome::Divisor(divisor) => {
+        Finding::Irreducible(_) => list.add(f),
+        Finding::Divisor(divisor) => {
             let quotient = cofactor(f, &divisor);
             collect(&divisor, list);
             collect(&quotient, list);

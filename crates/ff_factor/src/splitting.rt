@@ -9,7 +9,7 @@ ghost use Rattle.ff_poly.specs.Polynomial.{IsPoly};
 ghost use Rattle.ff_matrix.specs.Echelons.{IsEchelonOf};
 ghost use Rattle.alg_fields.specs.Fixed.{IsFixed, less_constant};
 ghost use Rattle.ff_factor.specs.Certificates.{Certifies, berlekamp_matrix};
-ghost use Rattle.ff_factor.specs.Splitting.{IsOutcome, IsNonzeroKernelColumn};
+ghost use Rattle.ff_factor.specs.InnerSplitting.{IsFinding, IsNonzeroKernelColumn};
 
 use crate::Cert;
 use crate::columns::matrix_in_turn;
@@ -19,7 +19,7 @@ use ff_poly::{MAX_DEGREE, Poly};
 
 /// What is found out about a polynomial.
 #[derive(Drop)]
-pub(crate) enum Outcome {
+pub(crate) enum Finding {
     /// It is irreducible.
     Irreducible(Cert),
 
@@ -32,25 +32,25 @@ pub(crate) enum Outcome {
 /// A polynomial with derivative 0 is a power `p`, and what it has in common with another derivative is a factor. Of the rest, it
 /// is irreducible exactly if only constants `v` have `v^p = v` modulo `f`; another such `v` has a factor in common with `f` when
 /// the right constant is taken off.
-pub(crate) fn split(f: &Poly) -> Outcome
+pub(crate) fn split(f: &Poly) -> Finding
     requires monic { IsMonic (residues f.now.prime) f.now.coefficients }
     requires not_constant { 1 < length f.now.coefficients }
     requires degree { length f.now.coefficients ≤ MAX_DEGREE + 1 }
-    ensures { IsOutcome f.now result }
+    ensures { IsFinding f.now result }
 {
     let derivative = f.derivative();
     if derivative.is_zero() {
-        return Outcome::Divisor(power_root(f));
+        return Finding::Divisor(power_root(f));
     }
     let bezout = f.bezout(&derivative);
     if bezout.g.coefficients().len() > 1 {
-        return Outcome::Divisor(bezout.g);
+        return Finding::Divisor(bezout.g);
     }
     let matrix = matrix_in_turn(f);
     let echelon = matrix.echelon();
     match echelon.left_inverse() {
-        Some(left) => Outcome::Irreducible(certificate(f, bezout.u, bezout.w, left)),
-        None => Outcome::Divisor(split_by_column(f, &kernel_column(&matrix, &echelon))),
+        Some(left) => Finding::Irreducible(certificate(f, bezout.u, bezout.w, left)),
+        None => Finding::Divisor(split_by_column(f, &kernel_column(&matrix, &echelon))),
     }
 }
 

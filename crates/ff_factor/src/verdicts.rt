@@ -3,10 +3,10 @@ ghost use Rattle.std.specs.Prelude.{◌≡◌, ◌+◌, ◌<◌, ◌≤◌, leng
 ghost use Rattle.std.specs.Ordering.{nat_cmp};
 ghost use Rattle.alg_model.specs.Coefficients.{residues};
 ghost use Rattle.alg_model.specs.Factors.{IsMonic, IsProperFactor, IsLeastFactor};
-ghost use Rattle.ff_factor.specs.Verdicts.{IsVerdict};
+ghost use Rattle.ff_factor.specs.Certificates.{IsVerdict};
 
 use crate::factorization::{cofactor, collect};
-use crate::splitting::{Outcome, split};
+use crate::splitting::{Finding, split};
 use crate::{Cert, FactorList};
 use ff_poly::{MAX_DEGREE, Poly};
 
@@ -37,8 +37,8 @@ pub fn judge(f: &Poly) -> Verdict
     ensures { IsVerdict f.now result }
 {
     match split(f) {
-        Outcome::Irreducible(cert) => Verdict::Irreducible(cert),
-        Outcome::Divisor(divisor) => {
+        Finding::Irreducible(cert) => Verdict::Irreducible(cert),
+        Finding::Divisor(divisor) => {
             let factor = least_factor(f, &divisor);
             let cofactor = cofactor(f, &factor);
             Verdict::Reducible { factor, cofactor }

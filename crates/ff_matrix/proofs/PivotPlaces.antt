@@ -6,7 +6,7 @@ use Rattle.std.proofs.lemmas.List.Elements.{All-set, All-replicate}
 use Rattle.alg_linear.specs.InnerGrids.{AreFree}
 use Rattle.alg_model.specs.Coefficients.{mod_ops, residues}
 use Rattle.alg_model.specs.Matrices.{Matrix, column_at, IsMatrix}
-use Rattle.ff_matrix.specs.Rows.{ArePlaces, IsKernelColumn}
+use Rattle.ff_matrix.specs.InnerRows.{ArePlaces, IsKernelColumn}
 use Rattle.ff_matrix.proofs.RowPlaces.{zeros_at}
 
 -- the first i values stand at their places among n, and the other places are zero

@@ -5,7 +5,7 @@ ghost use Rattle.alg_model.specs.Matrices.{entry, column_at, matrix_apply, matri
 ghost use Rattle.alg_linear.specs.InnerGrids.{AreFree};
 ghost use Rattle.ff_matrix.specs.Echelons.{IsEchelonOf};
 ghost use Rattle.ff_matrix.specs.ModularMatrix.{ModularMatrix, IsModularMatrix};
-ghost use Rattle.ff_matrix.specs.Rows.{ArePlaces, IsKernelColumn};
+ghost use Rattle.ff_matrix.specs.InnerRows.{ArePlaces, IsKernelColumn};
 
 use crate::places::zeros;
 use crate::{Column, ColumnList, Echelon, Matrix};

@@ -1,2 +1,2 @@
 pub mod Polynomial
-pub mod Normalizer
+pub mod InnerDivisors

@@ -6,4 +6,4 @@ returns-clause-irreducible c =
     let r = c.requires in
     certified_irreducible c.args.f.now (record { u = c.args.u; w = c.args.w; left = c.args.left }) c.prime-prime.ensures.whole r.monic r.not_constant
     c.prime-first.ensures.whole c.prime-second.ensures.whole c.prime-third.ensures.whole
-    (record { primes = r.primes; short = r.short; separable = r.separable; columns = r.columns; left_inverse = r.left_inverse })
+    (record { shape = record { primes = r.primes; short = r.short; columns = r.columns }; separable = r.separable; left_inverse = r.left_inverse })

@@ -2,7 +2,8 @@ use Rattle.std.proofs.Common.{◌≡◌, ◌≤◌, length, slice_index_or, nat_
 use Rattle.std.specs.List.Sorted.{IsSorted}
 use Rattle.alg_model.specs.Coefficients.{residues}
 use Rattle.alg_model.specs.Factors.{order_by, IsLeastFactor}
-use Rattle.ff_factor.specs.Splitting.{Collects, coefficients_of}
+use Rattle.ff_factor.specs.FactorLists.{coefficients_of}
+use Rattle.ff_factor.specs.InnerSplitting.{Collects}
 use Rattle.ff_factor.proofs.Collecting.{collects_parts, factorization_collected, first_is_least, sorted_none}
 use Rattle.ff_factor.proofs.verdicts.least_factor.Goals as goal
 

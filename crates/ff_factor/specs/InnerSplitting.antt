@@ -1,10 +1,7 @@
--- What the clauses of splitting and factoring speak of. Of this module public clauses cite AreOver and coefficients_of alone.
---     IsOutcome f s            a proper factor, or a certificate that there is none
+-- What the clauses of splitting and factoring speak of. Only contracts of functions that aren't public cite this module.
+--     IsFinding f s            a proper factor, or a certificate that there is none
 --     IsNonzeroKernelColumn p m x     a column that isn't zero and that m sends to zero
---     HasShape f cert          the parts of cert are over the prime of f and of the right sizes
 --     IsCofactor c f g q       f = q * g, both smaller than f
---     coefficients_of fs       the coefficients of each polynomial of a list
---     AreOver p fs             each polynomial of a list is over the residues modulo p
 --     IsPowerOfVariable f k c  c are coefficients of x^(k p) modulo f, no more than deg f
 --     residues_modulo p xs     the numbers xs modulo p
 --     ArePlacesOfPower f e xs  the numbers xs are modulo p the deg f coefficients of x^e modulo f
@@ -21,23 +18,19 @@ use Rattle.alg_divisors.specs.Factorization.{IsFactorization}
 use Rattle.ff_poly.specs.Polynomial.{Polynomial}
 use Rattle.ff_poly.specs.declared.TheConstants.{MAX_DEGREE}
 use Rattle.ff_factor.specs.Certificates.{Certifies}
+use Rattle.ff_factor.specs.FactorLists.{AreOver, coefficients_of}
 use Rattle.ff_factor.specs.declared.certificates.Cert.{Cert}
-use Rattle.ff_factor.specs.declared.splitting.Outcome.{Outcome}
-use Rattle.ff_factor.specs.declared.splitting.Outcome.TheVariants.{Irreducible, Divisor}
+use Rattle.ff_factor.specs.declared.splitting.Finding.{Finding}
+use Rattle.ff_factor.specs.declared.splitting.Finding.TheVariants.{Irreducible, Divisor}
 
-abbrev pub IsOutcome : Polynomial → Outcome → Type 0
-IsOutcome f (Irreducible cert) = Certifies f cert × IsIrreducible (residues f.prime) f.coefficients
-IsOutcome f (Divisor g) = (g.prime ≡ f.prime) × IsProperFactor (residues f.prime) f.coefficients g.coefficients
+abbrev pub IsFinding : Polynomial → Finding → Type 0
+IsFinding f (Irreducible cert) = Certifies f cert × IsIrreducible (residues f.prime) f.coefficients
+IsFinding f (Divisor g) = (g.prime ≡ f.prime) × IsProperFactor (residues f.prime) f.coefficients g.coefficients
 
 pub record IsNonzeroKernelColumn (p : ℕ) (m : Matrix ℕ) (x : List ℕ) : Type 0 where
   pub column : IsColumn (residues p) (length m.columns) x
   pub sent : matrix_apply (mod_ops p) m x ≡ zero_column (mod_ops p) m.rows
   pub not_zero : x ≢ zero_column (mod_ops p) (length m.columns)
-
-pub record HasShape (f : Polynomial) (cert : Cert) : Type 0 where
-  pub primes : (cert.u.prime ≡ f.prime) × (cert.w.prime ≡ f.prime) × (cert.left.prime ≡ f.prime)
-  pub short : (length cert.u.coefficients ≤ MAX_DEGREE) × (length cert.w.coefficients ≤ MAX_DEGREE)
-  pub columns : length cert.left.matrix.columns ≡ degree f.coefficients
 
 pub record IsCofactor {A : Type 0} (c : Carrier A) (f g q : List A) : Type 0 where
   pub polynomial : IsPolynomial c q
@@ -45,12 +38,6 @@ pub record IsCofactor {A : Type 0} (c : Carrier A) (f g q : List A) : Type 0 whe
   pub not_constant : 1 < length q
   pub lengths : length q + length g ≡ length f + 1
   pub product : poly_product c.ops q g ≡ f
-
-abbrev pub coefficients_of : List Polynomial → List (List ℕ)
-coefficients_of fs = map (λ f. f.coefficients) fs
-
-abbrev pub AreOver : ℕ → List Polynomial → Type 0
-AreOver p fs = All (λ f. f.prime ≡ p) fs
 
 pub record IsPowerOfVariable (f : Polynomial) (k : ℕ) (c : List ℕ) : Type 0 where
   pub residues : All (λ x. x < f.prime) c
