@@ -1,5 +1,0 @@
-use Rattle.std.proofs.Common.{◌≡◌, ◌^◌}
-use Rattle.ff_trial.proofs.power_of.Given as goal
-
-abbrev pub invariant-loop-place : goal.invariant-loop-place
-invariant-loop-place l = l.power ≡ l.base ^ l._place

@@ -1,0 +1,8 @@
+//! Tests that cross crates, and the plain program that they compare with: the least factor by trial division.
+#![tactic(auto)]
+
+#[cfg(test)]
+mod comparisons;
+#[cfg(test)]
+mod hand_examples;
+pub mod trial_division;
