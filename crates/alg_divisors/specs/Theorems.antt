@@ -1,9 +1,10 @@
 -- What the laws of this crate state.
-use Rattle.std.specs.Prelude.{◌≡◌, ℕ, ◌≤◌, List, length, Contains, IsPermutation}
+use Rattle.std.specs.Prelude.{◌≡◌, ℕ, ◌≤◌, Bool, List, length, Contains, IsPermutation}
 use Rattle.std.specs.Ordering.{nat_cmp}
 use Rattle.std.specs.declared.cmp.Ordering.TheVariants.{Less}
-use Rattle.alg_model.specs.Coefficients.{residues, IsPrime}
+use Rattle.alg_model.specs.Coefficients.{Ops, residues, tested, IsPrime}
 use Rattle.alg_model.specs.Factors.{IsPolynomial, IsMonic, IsGreatestCommonDivisor, IsProperFactor, IsIrreducible, IsLeastFactor, order_by}
+use Rattle.alg_model.specs.Fields.{IsField}
 use Rattle.alg_divisors.specs.Factorization.{IsFactorization, IsCombination}
 
 -- two polynomials have a greatest common divisor
@@ -60,3 +61,21 @@ FirstOfFactorsIsLeast =
     (p : ℕ) → IsPrime p → (f g : List ℕ) (fs : List (List ℕ)) → IsFactorization (residues p) f fs
     → 2 ≤ length fs → Contains fs g → ((h : List ℕ) → Contains fs h → order_by nat_cmp h g ≡ Less
     → ⊥) → IsLeastFactor (residues p) nat_cmp f g
+
+-- over each field whose elements a test tells, two polynomials have a greatest common divisor
+abbrev pub GcdExistsOverFields : Type 0 → Type 0
+GcdExistsOverFields T = IsSet T → (o : Ops T) (test : T → Bool) → IsField (tested o test)
+    → (a b : List T) → IsPolynomial (tested o test) a → IsPolynomial (tested o test) b
+    → (g : List T) × IsGreatestCommonDivisor (tested o test) a b g
+
+-- and only one
+abbrev pub GcdIsUniqueOverFields : Type 0 → Type 0
+GcdIsUniqueOverFields T = IsSet T → (o : Ops T) (test : T → Bool) → IsField (tested o test)
+    → (a b g h : List T) → IsGreatestCommonDivisor (tested o test) a b g
+    → IsGreatestCommonDivisor (tested o test) a b h → g ≡ h
+
+-- and two factorizations of a polynomial have the same factors, up to their order
+abbrev pub FactorizationIsUniqueOverFields : Type 0 → Type 0
+FactorizationIsUniqueOverFields T = IsSet T → (o : Ops T) (test : T → Bool) → IsField (tested o test)
+    → (f : List T) (fs gs : List (List T)) → IsFactorization (tested o test) f fs
+    → IsFactorization (tested o test) f gs → IsPermutation fs gs

@@ -4,6 +4,7 @@
 
 ghost use Rattle.alg_divisors.specs.Theorems.{GcdExists, GcdIsUnique, GcdIsCombination, FactorizationExists, FactorizationIsUnique};
 ghost use Rattle.alg_divisors.specs.Theorems.{LeastFactorExists, LeastFactorIsUnique, LeastFactorIsIrreducible, FirstOfFactorsIsLeast};
+ghost use Rattle.alg_divisors.specs.Theorems.{GcdExistsOverFields, GcdIsUniqueOverFields, FactorizationIsUniqueOverFields};
 
 /// Two polynomials have a greatest common divisor, it is the only one, and it is a combination of the two (Bezout).
 pub fn gcd_is_unique()
@@ -25,4 +26,11 @@ pub fn least_factor_is_unique()
     ensures unique { LeastFactorIsUnique }
     ensures irreducible { LeastFactorIsIrreducible }
     ensures first { FirstOfFactorsIsLeast }
+{}
+
+/// The same over any field whose elements a test tells, as far as it doesn't rest on finitely many elements.
+pub fn divisors_over_fields<T>()
+    ensures gcd_exists { GcdExistsOverFields T }
+    ensures gcd_unique { GcdIsUniqueOverFields T }
+    ensures factorization_unique { FactorizationIsUniqueOverFields T }
 {}

@@ -1,6 +1,6 @@
 -- What the laws of this crate state.
-use Rattle.std.specs.Prelude.{◌≡◌, ◌≢◌, ◌↔◌, ◌⊎◌, ℕ, ◌-◌, ◌%◌, ◌<◌, List, [], ◌∷◌, length, slice_index, All, AllPairs}
-use Rattle.alg_model.specs.Coefficients.{power, mod_ops, residues, IsPrime}
+use Rattle.std.specs.Prelude.{◌≡◌, ◌≢◌, ◌↔◌, ◌⊎◌, ℕ, ◌-◌, ◌%◌, ◌<◌, Bool, List, [], ◌∷◌, length, slice_index, All, AllPairs, IsTrue}
+use Rattle.alg_model.specs.Coefficients.{Ops, power, mod_ops, residues, tested, IsPrime}
 use Rattle.alg_model.specs.Polynomials.{sum, trim, derivative, evaluate, poly_product, poly_power}
 use Rattle.alg_model.specs.Factors.{IsPolynomial, IsMonic, Divides, IsDivision, IsGreatestCommonDivisor, IsProperFactor, IsIrreducible}
 use Rattle.alg_model.specs.Values.{degree, remainder, value_ops, values}
@@ -141,3 +141,16 @@ ProductIsRemainder =
     → 1 < length f → (values (residues p) f).Valid a → (values (residues p) f).Valid b
     → (q : List ℕ) × IsDivision (residues p) (poly_product (mod_ops p) a b) f q
     (trim (mod_ops p) ((value_ops (mod_ops p) f).mul a b))
+
+-- over each field whose elements a test tells, the values modulo a monic irreducible polynomial form a field
+abbrev pub ValuesOverFieldsAreAField : Type 0 → Type 0
+ValuesOverFieldsAreAField T = IsSet T → (o : Ops T) (test : T → Bool) → IsField (tested o test)
+    → (f : List T) → IsMonic (tested o test) f → IsIrreducible (tested o test) f
+    → IsField (values (tested o test) f)
+
+-- and a polynomial that isn't zero has fewer distinct roots than coefficients
+abbrev pub RootsOverFieldsAreFew : Type 0 → Type 0
+RootsOverFieldsAreFew T = IsSet T → (o : Ops T) (test : T → Bool) → IsField (tested o test)
+    → (f roots : List T) → IsPolynomial (tested o test) f → f ≢ [] → All (λ a. IsTrue (test a)) roots
+    → AllPairs (λ a b. a ≢ b) roots → All (λ a. evaluate o f a ≡ o.zero) roots
+    → length roots < length f

@@ -7,6 +7,7 @@ ghost use Rattle.alg_fields.specs.Theorems.{FrobeniusKeepsProducts, ResiduesAreF
 ghost use Rattle.alg_fields.specs.Theorems.{RemainderIsOfDivision, RemainderFillsPlaces, RemainderKeepsPowers, DerivativeZeroByPlaces};
 ghost use Rattle.alg_fields.specs.Theorems.{DerivativeZeroByPower, SquareFactorDividesDerivative, FixedPolynomialSplits, CoprimeFactorsGiveFixed};
 ghost use Rattle.alg_fields.specs.Theorems.{CertifiedIsIrreducible, IrreducibleIsCertified, ProductIsRemainder};
+ghost use Rattle.alg_fields.specs.Theorems.{ValuesOverFieldsAreAField, RootsOverFieldsAreFew};
 
 /// A polynomial that isn't zero has fewer distinct roots than coefficients; a is a root exactly if x - a divides it.
 pub fn roots_are_few()
@@ -56,4 +57,10 @@ pub fn fixed_polynomials_split()
 pub fn certificate_is_exact()
     ensures irreducible { CertifiedIsIrreducible }
     ensures certified { IrreducibleIsCertified }
+{}
+
+/// Residue fields and the root bound over any field whose elements a test tells.
+pub fn values_over_fields<T>()
+    ensures field { ValuesOverFieldsAreAField T }
+    ensures roots { RootsOverFieldsAreFew T }
 {}

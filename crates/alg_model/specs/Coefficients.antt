@@ -3,10 +3,11 @@
 --     times o n a, power o a n      n copies of a added; n copies of a multiplied
 --     mod_ops p                     the operations of the residues modulo p, on numbers
 --     Carrier A                     operations, and which of the a : A are elements
+--     tested o test                 the carrier of the elements that pass a test
 --     residues p                    the residues modulo p: the numbers below p
 --     IsPrime p                     p is above 1 and a product of two numbers only where one of them is 1
 --     IsCharacteristic p            p is one of the characteristics 2, 3, 5, 7, 11, 13, 17, 19, 23, 29, 31
-use Rattle.std.specs.Prelude.{◌≡◌, ◌⊎◌, ℕ, zero, suc, ◌+◌, ◌-◌, ◌*◌, ◌%◌, ◌<◌, ◌==◌, Bool, List, [], ◌∷◌, Contains}
+use Rattle.std.specs.Prelude.{◌≡◌, ◌⊎◌, ℕ, zero, suc, ◌+◌, ◌-◌, ◌*◌, ◌%◌, ◌<◌, ◌==◌, Bool, List, [], ◌∷◌, Contains, IsTrue}
 
 pub record Ops (A : Type 0) : Type 0 where
   pub zero : A
@@ -40,6 +41,10 @@ mod_ops p = record {
 pub record Carrier (A : Type 0) : Type 1 where
   pub ops : Ops A
   pub Valid : A → Type 0
+
+-- operations, and a test that tells which of the a : A are elements
+abbrev pub tested : {A : Type 0} → Ops A → (A → Bool) → Carrier A
+tested o test = record { ops = o; Valid = λ a. IsTrue (test a) }
 
 -- the residues modulo p
 abbrev pub residues : ℕ → Carrier ℕ

@@ -19,3 +19,4 @@ pub mod Powers
 pub mod Evaluation
 pub mod PolynomialOrder
 pub mod ValidEntries
+pub mod TestedCarriers

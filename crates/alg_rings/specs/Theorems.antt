@@ -1,8 +1,8 @@
 -- What the laws of this crate state.
-use Rattle.std.specs.Prelude.{◌≡◌, ◌≢◌, ◌↔◌, ℕ, ◌<◌, List, [], length, slice_index, slice_index_or}
+use Rattle.std.specs.Prelude.{◌≡◌, ◌≢◌, ◌↔◌, ℕ, ◌<◌, Bool, List, [], length, slice_index, slice_index_or}
 use Rattle.std.specs.declared.cmp.Ordering.{Ordering}
 use Rattle.std.specs.declared.cmp.Ordering.TheVariants.{Less, Equal, Greater}
-use Rattle.alg_model.specs.Coefficients.{Ops, mod_ops, residues, IsPrime, IsCharacteristic}
+use Rattle.alg_model.specs.Coefficients.{Ops, mod_ops, residues, tested, IsPrime, IsCharacteristic}
 use Rattle.alg_model.specs.Polynomials.{poly_product, convolution}
 use Rattle.alg_model.specs.Factors.{IsPolynomial, IsDivision, Divides, order_by}
 use Rattle.alg_model.specs.Fields.{IsRing, IsField}
@@ -70,3 +70,15 @@ HighestPlaceDecides T = (compare : T → T → Ordering) → ((x : T) → compar
 abbrev pub EqualCompareEqual : Type 0 → Type 0
 EqualCompareEqual T = (compare : T → T → Ordering) → ((x : T) → compare x x ≡ Equal)
     → (f : List T) → order_by compare f f ≡ Equal
+
+-- over each field whose elements a test tells, each polynomial can be divided by each one but zero
+abbrev pub DivisionExistsOverFields : Type 0 → Type 0
+DivisionExistsOverFields T = IsSet T → (o : Ops T) (test : T → Bool) → IsField (tested o test)
+    → (f d : List T) → IsPolynomial (tested o test) f → IsPolynomial (tested o test) d → d ≢ []
+    → (q : List T) × (r : List T) × IsDivision (tested o test) f d q r
+
+-- and quotient and remainder are determined
+abbrev pub DivisionIsUniqueOverFields : Type 0 → Type 0
+DivisionIsUniqueOverFields T = IsSet T → (o : Ops T) (test : T → Bool) → IsField (tested o test)
+    → (f d q r s t : List T) → IsPolynomial (tested o test) d → IsDivision (tested o test) f d q r
+    → IsDivision (tested o test) f d s t → (q ≡ s) × (r ≡ t)

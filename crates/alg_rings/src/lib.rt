@@ -4,6 +4,7 @@
 
 ghost use Rattle.alg_rings.specs.Theorems.{ProductsAreConvolutions, ResidueProductsAreConvolutions, PolynomialsAreARing};
 ghost use Rattle.alg_rings.specs.Theorems.{ResiduesAreAField, DivisionExists, DivisionIsUnique, DividesWithoutRemainder};
+ghost use Rattle.alg_rings.specs.Theorems.{DivisionExistsOverFields, DivisionIsUniqueOverFields};
 ghost use Rattle.alg_rings.specs.Theorems.{CharacteristicsArePrime, ShorterComesFirst, HighestPlaceDecides, EqualCompareEqual};
 
 /// The k-th coefficient of a product of polynomials is the sum of the products of their coefficients at places that add up
@@ -42,4 +43,10 @@ pub fn order_is_by_length_and_place<T>()
     ensures shorter { ShorterComesFirst T }
     ensures place { HighestPlaceDecides T }
     ensures equal { EqualCompareEqual T }
+{}
+
+/// Division with remainder of polynomials over any field whose elements a test tells.
+pub fn division_over_fields<T>()
+    ensures exists { DivisionExistsOverFields T }
+    ensures unique { DivisionIsUniqueOverFields T }
 {}
