@@ -1,7 +1,7 @@
 //! A sink over memory, for tests: it takes bytes in pieces up to its room, and fails where it is told to.
 ghost use Rattle.std.specs.Prelude.{◌≡◌, ◌-◌, ◌^◌, ◌<◌, ◌≤◌, ◌↔◌, ◌⊎◌, length, take, min, Some, IfOk, OnErr, IsOk, IsErr, MatchResult, Contains};
 ghost use Rattle.std.specs.Io.KnownBytes.{Keeps, Appends};
-ghost use Rattle.lat_io.specs.Faults.{Rose};
+ghost use Rattle.lat_io.specs.Faults.{CountsFault};
 ghost use Rattle.lat_io.specs.Memory.{new_store, took, refused};
 
 use crate::calls::Calls;
@@ -55,15 +55,13 @@ impl MemorySink {
         ensures made { IfOk result (λ sink. sink ≡ new_store room piece fails.items) }
         ensures without_room { room ≡ 0 → IsOk result }
     {
-        match Vec::with_capacity(alloc, room) {
-            Ok(held) => Ok(MemorySink {
-                held,
-                room,
-                piece,
-                calls: Calls::new(fails),
-            }),
-            Err(_) => Err(NoMemory),
-        }
+        let held = Vec::with_capacity(alloc, room)?;
+        Ok(MemorySink {
+            held,
+            room,
+            piece,
+            calls: Calls::new(fails),
+        })
     }
 
     /// The bytes that the sink holds.
@@ -87,10 +85,9 @@ impl Sink for MemorySink {
         ensures some { IfOk result (λ count. 0 < length bytes.now → 0 < count) }
         ensures appended { IfOk result (λ count.
             Appends (Some self.old.held) (Some self.new.held) (take count bytes.now)) }
-
-        ensures failed { OnErr result (Rose self.old.faults self.new.faults) }
         ensures kept { OnErr result (Keeps (Some self.old.held) (Some self.new.held)) }
 
+        ensures counted { CountsFault result self.old.faults self.new.faults }
         ensures never_falls { self.old.faults ≤ self.new.faults }
         ensures fits { self.new.faults < 2 ^ 64 }
 

@@ -1,7 +1,7 @@
 //! A source over memory, for tests: it gives its bytes in pieces, and fails where it is told to.
 ghost use Rattle.std.specs.Prelude.{◌≡◌, ◌^◌, ◌<◌, ◌≤◌, ◌↔◌, [], length, take, min, Some, IfSome, IfOk, OnErr, IsErr, MatchResult, Contains};
 ghost use Rattle.std.specs.Io.KnownBytes.{Keeps, Consumes};
-ghost use Rattle.lat_io.specs.Faults.{Rose};
+ghost use Rattle.lat_io.specs.Faults.{CountsFault};
 ghost use Rattle.lat_io.specs.Memory.{new_feed, gave, missed};
 
 use crate::calls::Calls;
@@ -67,10 +67,9 @@ impl Source for MemorySource {
             Consumes (Some self.old.left) (Some self.new.left) (take count buf.new)) }
         ensures end { IfOk result (λ count. 0 < length buf.new →
             IfSome (Some self.old.left) (λ bytes. (count ≡ 0) ↔ (bytes ≡ []))) }
-
-        ensures failed { OnErr result (Rose self.old.faults self.new.faults) }
         ensures kept { OnErr result (Keeps (Some self.old.left) (Some self.new.left)) }
 
+        ensures counted { CountsFault result self.old.faults self.new.faults }
         ensures never_falls { self.old.faults ≤ self.new.faults }
         ensures fits { self.new.faults < 2 ^ 64 }
 

@@ -1,7 +1,7 @@
 //! Adapters over std's readers and writers: the edge to the real input and output.
-ghost use Rattle.std.specs.Prelude.{◌≡◌, ◌^◌, ◌<◌, ◌≤◌, length, None, IfOk, OnErr, MatchResult};
-ghost use Rattle.std.specs.Io.KnownBytes.{ReadConsumes, WriteAppends};
-ghost use Rattle.lat_io.specs.Faults.{Rose, one_more};
+ghost use Rattle.std.specs.Prelude.{◌≡◌, ◌^◌, ◌<◌, ◌≤◌, ◌↔◌, [], length, take, IfSome, IfOk, OnErr};
+ghost use Rattle.std.specs.Io.KnownBytes.{Keeps, Consumes, Appends};
+ghost use Rattle.lat_io.specs.Faults.{CountsFault};
 
 use crate::faults::Failed;
 use crate::sink::Sink;
@@ -9,8 +9,9 @@ use crate::source::Source;
 use std::io::{Read, Write};
 use std::marker::Model;
 
-/// A source over a reader of std. It tells no bytes, since what a reader gives is known only while the
-/// program runs. Each error of the reader is a fault, and is counted.
+/// A source over a reader of std. It tells the bytes that std knows of the reader: those of a slice or a
+/// cursor, but none of standard input, which is known only while the program runs. Each error of the
+/// reader is a fault, and is counted.
 #[derive(Drop)]
 pub struct StdSource<I: Read> {
     reader: I,
@@ -39,22 +40,22 @@ impl<I: Read> StdSource<I> {
 }
 
 impl<I: Read> Source for StdSource<I> {
-    ghost left = { λ _. None };
+    ghost left = { λ source. source.known };
 
     ghost faults = { λ source. source.faults };
 
     fn read(&mut self, buf: &mut [u8]) -> Result<usize, Failed>
         ensures within { IfOk result (λ count. count ≤ length buf.new) }
-        ensures failed { OnErr result (Rose self.old.faults self.new.faults) }
+        ensures taken { IfOk result (λ count.
+            Consumes self.old.known self.new.known (take count buf.new)) }
+        ensures end { IfOk result (λ count. 0 < length buf.new →
+            IfSome self.old.known (λ bytes. (count ≡ 0) ↔ (bytes ≡ []))) }
+        ensures kept { OnErr result (Keeps self.old.known self.new.known) }
 
+        // That it fails only where the reader does, no clause can say: std tells nothing of a reader's errors.
+        ensures counted { CountsFault result self.old.faults self.new.faults }
         ensures never_falls { self.old.faults ≤ self.new.faults }
         ensures fits { self.new.faults < 2 ^ 64 }
-
-        // Beyond what each source does: what it gave was taken from the reader, a failure kept the reader's bytes, and
-        // exactly a failure was counted. That it fails only where the reader does, no clause says.
-        ensures reads { ReadConsumes self.old.known self.new.known result buf.new }
-        ensures counts { MatchResult result (λ _. self.new.faults ≡ self.old.faults)
-            (λ _. self.new.faults ≡ one_more self.old.faults) }
     {
         match self.reader.read(buf) {
             Ok(count) => Ok(count),
@@ -66,8 +67,9 @@ impl<I: Read> Source for StdSource<I> {
     }
 }
 
-/// A sink over a writer of std. It tells no bytes, since what a writer took is known only while the
-/// program runs. Each error of the writer is a fault, and so is a write that takes none of some bytes.
+/// A sink over a writer of std. It tells the bytes that std knows of the writer: those of a vector, but
+/// none of standard output, which is known only while the program runs. Each error of the writer is a
+/// fault, and so is a write that takes none of some bytes.
 #[derive(Drop)]
 pub struct StdSink<W: Write> {
     writer: W,
@@ -96,23 +98,21 @@ impl<W: Write> StdSink<W> {
 }
 
 impl<W: Write> Sink for StdSink<W> {
-    ghost held = { λ _. None };
+    ghost held = { λ sink. sink.known };
 
     ghost faults = { λ sink. sink.faults };
 
     fn write(&mut self, bytes: &[u8]) -> Result<usize, Failed>
         ensures within { IfOk result (λ count. count ≤ length bytes.now) }
         ensures some { IfOk result (λ count. 0 < length bytes.now → 0 < count) }
-        ensures failed { OnErr result (Rose self.old.faults self.new.faults) }
+        ensures appended { IfOk result (λ count.
+            Appends self.old.known self.new.known (take count bytes.now)) }
+        ensures kept { OnErr result (Keeps self.old.known self.new.known) }
 
+        // That it fails only where the writer does, no clause can say: std tells nothing of a writer's errors.
+        ensures counted { CountsFault result self.old.faults self.new.faults }
         ensures never_falls { self.old.faults ≤ self.new.faults }
         ensures fits { self.new.faults < 2 ^ 64 }
-
-        // Beyond what each sink does: what it took was appended to the writer, a failure kept the writer's bytes, and
-        // exactly a failure was counted. That it fails only where the writer does, no clause says.
-        ensures writes { WriteAppends self.old.known self.new.known result bytes.now }
-        ensures counts { MatchResult result (λ _. self.new.faults ≡ self.old.faults)
-            (λ _. self.new.faults ≡ one_more self.old.faults) }
     {
         match self.writer.write(bytes) {
             Ok(count) if count > 0 || bytes.is_empty() => Ok(count),
