@@ -76,7 +76,7 @@ pub fn read_all<S: Source>(
 {
     let mut bytes = Vec::new(alloc);
     let mut piece = [0u8; PIECE];
-    loop {
+    'pieces: loop {
         let room = limit + 1 - bytes.len();
         let asked = room.min(PIECE);
         let count = source.read(&mut piece[..asked])?;

@@ -20,11 +20,11 @@ pub struct StdSource<I: Read> {
 
 impl<I: Read> Model for StdSource<I> {
     ghost use Rattle.std.specs.Prelude.{◌<◌, ◌^◌};
-    ghost use Rattle.lat_io.specs.Standard.{Adapter};
+    ghost use Rattle.lat_io.specs.Streams.{Stream};
 
-    ghost Value = { Adapter };
+    ghost Value = { Stream };
 
-    ghost view = { λ source. record { known = I.remaining source.reader; faults = source.faults } };
+    ghost view = { λ source. record { bytes = I.remaining source.reader; faults = source.faults } };
 
     ghost invariant = { λ source. source.faults < 2 ^ 64 };
 }
@@ -32,7 +32,7 @@ impl<I: Read> Model for StdSource<I> {
 impl<I: Read> StdSource<I> {
     /// A source over `reader`, with no fault so far.
     pub fn new(reader: I) -> StdSource<I>
-        ensures reader { result.known ≡ I.remaining reader }
+        ensures reader { result.bytes ≡ I.remaining reader }
         ensures faults { result.faults ≡ 0 }
     {
         StdSource { reader, faults: 0 }
@@ -40,17 +40,17 @@ impl<I: Read> StdSource<I> {
 }
 
 impl<I: Read> Source for StdSource<I> {
-    ghost left = { λ source. source.known };
+    ghost left = { λ source. source.bytes };
 
     ghost faults = { λ source. source.faults };
 
     fn read(&mut self, buf: &mut [u8]) -> Result<usize, Failed>
         ensures within { IfOk result (λ count. count ≤ length buf.new) }
         ensures taken { IfOk result (λ count.
-            Consumes self.old.known self.new.known (take count buf.new)) }
+            Consumes self.old.bytes self.new.bytes (take count buf.new)) }
         ensures end { IfOk result (λ count. 0 < length buf.new →
-            IfSome self.old.known (λ bytes. (count ≡ 0) ↔ (bytes ≡ []))) }
-        ensures kept { OnErr result (Keeps self.old.known self.new.known) }
+            IfSome self.old.bytes (λ bytes. (count ≡ 0) ↔ (bytes ≡ []))) }
+        ensures kept { OnErr result (Keeps self.old.bytes self.new.bytes) }
 
         // That it fails only where the reader does, no clause can say: std tells nothing of a reader's errors.
         ensures counted { CountsFault result self.old.faults self.new.faults }
@@ -78,11 +78,11 @@ pub struct StdSink<W: Write> {
 
 impl<W: Write> Model for StdSink<W> {
     ghost use Rattle.std.specs.Prelude.{◌<◌, ◌^◌};
-    ghost use Rattle.lat_io.specs.Standard.{Adapter};
+    ghost use Rattle.lat_io.specs.Streams.{Stream};
 
-    ghost Value = { Adapter };
+    ghost Value = { Stream };
 
-    ghost view = { λ sink. record { known = W.contents sink.writer; faults = sink.faults } };
+    ghost view = { λ sink. record { bytes = W.contents sink.writer; faults = sink.faults } };
 
     ghost invariant = { λ sink. sink.faults < 2 ^ 64 };
 }
@@ -90,7 +90,7 @@ impl<W: Write> Model for StdSink<W> {
 impl<W: Write> StdSink<W> {
     /// A sink over `writer`, with no fault so far.
     pub fn new(writer: W) -> StdSink<W>
-        ensures writer { result.known ≡ W.contents writer }
+        ensures writer { result.bytes ≡ W.contents writer }
         ensures faults { result.faults ≡ 0 }
     {
         StdSink { writer, faults: 0 }
@@ -98,7 +98,7 @@ impl<W: Write> StdSink<W> {
 }
 
 impl<W: Write> Sink for StdSink<W> {
-    ghost held = { λ sink. sink.known };
+    ghost held = { λ sink. sink.bytes };
 
     ghost faults = { λ sink. sink.faults };
 
@@ -106,8 +106,8 @@ impl<W: Write> Sink for StdSink<W> {
         ensures within { IfOk result (λ count. count ≤ length bytes.now) }
         ensures some { IfOk result (λ count. 0 < length bytes.now → 0 < count) }
         ensures appended { IfOk result (λ count.
-            Appends self.old.known self.new.known (take count bytes.now)) }
-        ensures kept { OnErr result (Keeps self.old.known self.new.known) }
+            Appends self.old.bytes self.new.bytes (take count bytes.now)) }
+        ensures kept { OnErr result (Keeps self.old.bytes self.new.bytes) }
 
         // That it fails only where the writer does, no clause can say: std tells nothing of a writer's errors.
         ensures counted { CountsFault result self.old.faults self.new.faults }

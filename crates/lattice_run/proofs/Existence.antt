@@ -9,14 +9,13 @@ use Rattle.std.proofs.lemmas.List.Elements.{All-cons, All-nil, Contains-append_c
 use Rattle.std.proofs.lemmas.List.Quantifiers.{position-Some}
 use Rattle.std.proofs.lemmas.Option.{slice_get-get_or}
 use Rattle.std.proofs.lemmas.Slice.Eq.{bytes_eq-Decides}
-use Rattle.alg_model.specs.Coefficients.{primes, residues, IsCharacteristic}
+use Rattle.alg_model.specs.Coefficients.{residues}
 use Rattle.alg_model.specs.Factors.{IsPolynomial, IsIrreducible, IsLeastFactor}
 use Rattle.alg_model.specs.Values.{degree}
 use Rattle.alg_rings.proofs.ResidueFields.{residues_field, residues_propositional}
 use Rattle.alg_divisors.proofs.Existence.{least_factor_exists, proper_factor_or_none}
 use Rattle.alg_divisors.proofs.Finite.{residues_finite}
 use Rattle.alg_divisors.proofs.Least.{contains_one}
-use Rattle.ff_poly.specs.declared.TheConstants.{MAX_DEGREE}
 use Rattle.lat_script.specs.declared.commands.Command.{Command}
 use Rattle.lat_script.specs.declared.commands.Command.TheVariants.{Field}
 use Rattle.lat_script.specs.declared.replies.Reply.{Reply}
@@ -26,9 +25,9 @@ use Rattle.lat_script.specs.declared.replies.StepRefusal.TheVariants.{NotInTable
 use Rattle.lat_script.specs.declared.replies.Outcome.TheVariants.{Changed}
 use Rattle.lat_script.proofs.Readings.{reading_exists}
 use Rattle.lat_script.specs.Texts.{line_text, summary_text, usage_text, bad_line_text, too_long_text}
-use Rattle.lattice_run.specs.declared.lattice.TheConstants.{MAX_FIELDS}
+use Rattle.lattice_run.specs.declared.lattice.TheConstants.{MAX_FIELDS, TOP_DEGREE}
 use Rattle.lattice_run.specs.declared.run.TheConstants.{MAX_INPUT}
-use Rattle.lattice_run.specs.Lattice.{FieldRow, IsDegreeInRange, IsFirstTooLarge, IsWellFormed, IsMalformed, AnswersTakenName, Declares, opening, map_count, field_named}
+use Rattle.lattice_run.specs.Lattice.{FieldRow, characteristics, IsInTable, IsDegreeInRange, IsFirstTooLarge, IsWellFormed, IsMalformed, AnswersTakenName, Declares, opening, map_count, field_named}
 use Rattle.lattice_run.specs.Lattice.AnswersTakenName.{same, other}
 use Rattle.lattice_run.specs.Lattice.Declares.{malformed, named, reducible, full, declared}
 use Rattle.lattice_run.specs.Lattice.IsMalformed.{not_in_table, degree_out_of_range, coefficient_too_large, not_monic}
@@ -56,7 +55,7 @@ same_or_not xs ys = ⊎_elim
 in_range_or_not : (f : List ℕ) → IsDegreeInRange f ⊎ (IsDegreeInRange f → ⊥)
 in_range_or_not f = ⊎_elim
     (λ l. inr (λ h. absurd (let k : 2 ≤ degree f = h.0 in omega arith)))
-    (λ h. ⊎_elim (λ l. inr (λ k. absurd (let m : degree f ≤ MAX_DEGREE = k.1 in omega arith))) (λ k. inl (h, k)) (cases_lt MAX_DEGREE (degree f)))
+    (λ h. ⊎_elim (λ l. inr (λ k. absurd (let m : degree f ≤ TOP_DEGREE = k.1 in omega arith))) (λ k. inl (h, k)) (cases_lt TOP_DEGREE (degree f)))
     (cases_lt (degree f) 2)
 
 -- where the lowest coefficient is below p, the place is one more than among the others
@@ -79,13 +78,13 @@ first_or_none p (a ∷ f) = ⊎_elim
     (cases_lt a p)
 
 -- ---- declarations
-monic_cases : (p : ℕ) (f : List ℕ) → IsCharacteristic p → IsDegreeInRange f → All (λ a. a < p) f
+monic_cases : (p : ℕ) (f : List ℕ) → IsInTable p → IsDegreeInRange f → All (λ a. a < p) f
     → ((refusal : StepRefusal) × IsMalformed p f refusal) ⊎ IsWellFormed p f
 monic_cases p f c d a = ⊎_elim
     (λ e. inr (record { characteristic = c; in_range = d; coefficients = a; monic = e }))
     (λ n. inl (NotMonic, not_monic c d a n refl)) (cases_eq (slice_index f (degree f)) 1)
 
-coefficient_cases : (p : ℕ) (f : List ℕ) → IsCharacteristic p → IsDegreeInRange f
+coefficient_cases : (p : ℕ) (f : List ℕ) → IsInTable p → IsDegreeInRange f
     → ((refusal : StepRefusal) × IsMalformed p f refusal) ⊎ IsWellFormed p f
 coefficient_cases p f c d = ⊎_elim
     (λ h. inl (CoefficientTooLarge h.0, coefficient_too_large c d h.0 h.1 refl))
@@ -96,7 +95,7 @@ malformed_or_well_formed p f = ⊎_elim
     (λ c. ⊎_elim
     (λ d. coefficient_cases p f c d)
     (λ n. inl (DegreeOutOfRange (degree f), degree_out_of_range c n refl)) (in_range_or_not f))
-    (λ n. inl (NotInTable p, not_in_table n refl)) (contains_or_not primes p)
+    (λ n. inl (NotInTable p, not_in_table n refl)) (contains_or_not characteristics p)
 
 irreducible_or_factored : (p : ℕ) (f : List ℕ) → IsWellFormed p f
     → IsIrreducible (residues p) f ⊎ ((g : List ℕ) × IsLeastFactor (residues p) nat_cmp f g)

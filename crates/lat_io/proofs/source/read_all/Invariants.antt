@@ -3,12 +3,12 @@ use Rattle.std.proofs.Common.{◌≡◌, ◌≤◌, ◌-◌, vec_len}
 use Rattle.std.specs.Io.KnownBytes.{Consumes}
 use Rattle.lat_io.proofs.source.read_all.Given as goal
 
-abbrev pub invariant-loop-bytes : goal.invariant-loop-bytes
-invariant-loop-bytes g l = record {
+abbrev pub invariant-pieces : goal.invariant-pieces
+invariant-pieces g l = record {
   within : vec_len l.bytes ≤ l.limit;
   taken : Consumes (g.S.Source.left l.fn.source) (g.S.Source.left l.source) l.bytes.items;
   unfailed : g.S.Source.faults l.source ≡ g.S.Source.faults l.fn.source;
 }
 
-abbrev pub decreases-loop-bytes : goal.decreases-loop-bytes
-decreases-loop-bytes g l = l.limit - vec_len l.bytes
+abbrev pub decreases-pieces : goal.decreases-pieces
+decreases-pieces g l = l.limit - vec_len l.bytes

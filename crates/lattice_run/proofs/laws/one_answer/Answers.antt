@@ -1,7 +1,7 @@
 use Rattle.lattice_run.proofs.Determined.{answer_texts}
 use Rattle.lattice_run.proofs.Statuses.{same_status}
 use Rattle.lattice_run.proofs.Existence.{answer_exists}
-use Rattle.lattice_run.proofs.run.one_answer.Goals as goal
+use Rattle.lattice_run.proofs.laws.one_answer.Goals as goal
 
 pub returns-clause-unique : goal.returns-clause-unique
 returns-clause-unique c = λ words input s t text other a b. (same_status a b, answer_texts a b)

@@ -1,5 +1,5 @@
 use Rattle.lattice_run.proofs.Lattices.{opening_is_lattice, declaring_keeps}
-use Rattle.lattice_run.proofs.lattice.lattices_hold_fields.Goals as goal
+use Rattle.lattice_run.proofs.laws.lattices_hold_fields.Goals as goal
 
 pub returns-clause-opening : goal.returns-clause-opening
 returns-clause-opening c = opening_is_lattice

@@ -1,6 +1,6 @@
 use Rattle.lattice_run.proofs.Determined.{transcript_same}
 use Rattle.lattice_run.proofs.Existence.{transcript_exists}
-use Rattle.lattice_run.proofs.run.one_transcript.Goals as goal
+use Rattle.lattice_run.proofs.laws.one_transcript.Goals as goal
 
 pub returns-clause-unique : goal.returns-clause-unique
 returns-clause-unique c = transcript_same
