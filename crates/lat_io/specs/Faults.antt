@@ -1,7 +1,7 @@
 -- The count of faults that a source or a sink keeps: a number below 2^64 that never falls.
 --     one_more count                the count after one fault more
---     Rose old new                  the count went up, or is at its last value, after which no fault shows
---     CountsFault result old new    a call that failed was counted, once, and one that succeeded wasn't
+--     Rose old new                  the count went up, or is at its last value
+--     CountsFault result old new    a call that failed was counted, once, and no other
 use Rattle.std.specs.Prelude.{◌≡◌, ℕ, ◌+◌, ◌-◌, ◌^◌, ◌<◌, ◌⊎◌, min, Result, MatchResult}
 
 -- the last value of a count, at which it stays: 18,446,744,073,709,551,615

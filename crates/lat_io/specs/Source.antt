@@ -1,5 +1,5 @@
--- What a call does to the bytes that a source has left: `Some` of those bytes where the source tells
--- them, and `None` where it doesn't, of which nothing is claimed.
+-- What a call does to the bytes that a source has left: `Some` of those bytes where the source
+-- tells them, and `None` where it doesn't, of which nothing is claimed.
 --     ReadWhole old new bytes         these bytes are all that was left, and nothing is left
 --     TakesFront old new count        this many bytes were taken, from the front
 --     TakesAtMost old new limit       some number of bytes up to a limit was taken, from the front

@@ -14,8 +14,8 @@ pub trait Sink {
     // How many faults there were. At its last value this count stays.
     ghost faults: { Self → ℕ };
 
-    /// Appends the first of `bytes` to what the sink holds, and says how many, at least one where there
-    /// are any. On [`Failed`] what it holds stays.
+    /// Appends the first of `bytes` to what the sink holds, and says how many, at least one where
+    /// there are any. On [`Failed`] what it holds stays.
     fn write(&mut self, bytes: &[u8]) -> Result<usize, Failed>
         ensures within { IfOk result (λ count. count ≤ length bytes.now) }
         ensures some { IfOk result (λ count. 0 < length bytes.now → 0 < count) }

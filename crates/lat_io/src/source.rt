@@ -16,10 +16,11 @@ pub trait Source {
     // How many faults there were. At its last value this count stays.
     ghost faults: { Self → ℕ };
 
-    /// Moves the first bytes that are left to the front of `buf`, and says how many. What stands after
-    /// them in `buf` is unspecified.
+    /// Moves the first bytes that are left to the front of `buf`, and says how many. What stands
+    /// after them in `buf` is unspecified.
     ///
-    /// It gives 0 for a `buf` with room only at the end of the input. On [`Failed`] no byte is taken.
+    /// It gives 0 for a `buf` with room only at the end of the input. On [`Failed`] no byte is
+    /// taken.
     fn read(&mut self, buf: &mut [u8]) -> Result<usize, Failed>
         ensures within { IfOk result (λ count. count ≤ length buf.new) }
         ensures taken { IfOk result (λ count.
@@ -43,10 +44,10 @@ const PIECE: usize = 4096;
 ///
 /// Requires that `limit` is at most [`MAX_LIMIT`].
 ///
-/// Gives [`ReadFault::TooLong`] with `limit + 1` exactly where the source gave that many bytes, and then
-/// it is read no further; [`ReadFault::Failed`] exactly where the source counted a fault in this call, and
-/// then it is read no further; and [`ReadFault::NoMemory`]. Where it fails, the first bytes of the source
-/// are gone.
+/// Gives [`ReadFault::TooLong`] with `limit + 1` exactly where the source gave that many bytes, and
+/// then it is read no further; [`ReadFault::Failed`] exactly where the source counted a fault in
+/// this call, and then it is read no further; and [`ReadFault::NoMemory`]. Where it fails, the
+/// first bytes of the source are gone.
 pub fn read_all<S: Source>(
     alloc: Global,
     source: &mut S,

@@ -9,9 +9,9 @@ use crate::source::Source;
 use std::io::{Read, Write};
 use std::marker::Model;
 
-/// A source over a reader of std. It tells the bytes that std knows of the reader: those of a slice or a
-/// cursor, but none of standard input, which is known only while the program runs. Each error of the
-/// reader is a fault, and is counted.
+/// A source over a reader of std. It tells the bytes that std knows of the reader: those of a slice
+/// or a cursor, but none of standard input, which is known only while the program runs. Each error
+/// of the reader is a fault, and is counted.
 #[derive(Drop)]
 pub struct StdSource<I: Read> {
     reader: I,
@@ -52,7 +52,8 @@ impl<I: Read> Source for StdSource<I> {
             IfSome self.old.bytes (λ bytes. (count ≡ 0) ↔ (bytes ≡ []))) }
         ensures kept { OnErr result (Keeps self.old.bytes self.new.bytes) }
 
-        // That it fails only where the reader does, no clause can say: std tells nothing of a reader's errors.
+        // That it fails only where the reader does, no clause can say: std tells nothing of a
+        // reader's errors.
         ensures counted { CountsFault result self.old.faults self.new.faults }
         ensures never_falls { self.old.faults ≤ self.new.faults }
         ensures fits { self.new.faults < 2 ^ 64 }
@@ -67,9 +68,9 @@ impl<I: Read> Source for StdSource<I> {
     }
 }
 
-/// A sink over a writer of std. It tells the bytes that std knows of the writer: those of a vector, but
-/// none of standard output, which is known only while the program runs. Each error of the writer is a
-/// fault, and so is a write that takes none of some bytes.
+/// A sink over a writer of std. It tells the bytes that std knows of the writer: those of a vector,
+/// but none of standard output, which is known only while the program runs. Each error of the
+/// writer is a fault, and so is a write that takes none of some bytes.
 #[derive(Drop)]
 pub struct StdSink<W: Write> {
     writer: W,
@@ -109,7 +110,8 @@ impl<W: Write> Sink for StdSink<W> {
             Appends self.old.bytes self.new.bytes (take count bytes.now)) }
         ensures kept { OnErr result (Keeps self.old.bytes self.new.bytes) }
 
-        // That it fails only where the writer does, no clause can say: std tells nothing of a writer's errors.
+        // That it fails only where the writer does, no clause can say: std tells nothing of a
+        // writer's errors.
         ensures counted { CountsFault result self.old.faults self.new.faults }
         ensures never_falls { self.old.faults ≤ self.new.faults }
         ensures fits { self.new.faults < 2 ^ 64 }

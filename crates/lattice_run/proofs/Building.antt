@@ -13,20 +13,25 @@ use Rattle.lattice_run.specs.Lattice.{IsInTable, IsDegreeInRange, IsFirstTooLarg
 use Rattle.lattice_run.specs.Lattice.IsMalformed.{coefficient_too_large}
 use Rattle.lat_script.specs.declared.replies.StepRefusal.TheVariants.{CoefficientTooLarge}
 
-pub leading_of_monic : (p : ℕ) (f : List ℕ) → slice_index f (degree f) ≡ 1 → leading (mod_ops p) f ≡ 1
+-- the last coefficient is that at the degree
+pub leading_of_monic : (p : ℕ) (f : List ℕ) → slice_index f (degree f) ≡ 1
+    → leading (mod_ops p) f ≡ 1
 leading_of_monic p f h = leading_at (mod_ops p) f ∙ h
 
+-- a list whose last coefficient is one has no zeros at its end
 pub trimmed_monic : (p : ℕ) (f : List ℕ) → slice_index f (degree f) ≡ 1 → trim (mod_ops p) f ≡ f
 trimmed_monic p f h = trimmed_from_leading (mod_ops p) (zero_test p) f
     (λ e. absurd (let l : leading (mod_ops p) f ≡ 1 = leading_of_monic p f h in omega arith))
 
 -- a record of two parts
-pub same_polynomial : (f g : Polynomial) → f.prime ≡ g.prime → f.coefficients ≡ g.coefficients → f ≡ g
+pub same_polynomial : (f g : Polynomial) → f.prime ≡ g.prime → f.coefficients ≡ g.coefficients
+    → f ≡ g
 same_polynomial f g e d = ap₂ (λ p c. record { prime = p; coefficients = c }) e d
 
 -- what was made of the numbers is what was written
-pub well_formed_polynomial : (p prime : ℕ) (digits numbers : List ℕ) (g : Polynomial) → numbers ≡ digits
-    → IsInTable p × (prime ≡ p) → IsDegreeInRange numbers → All (λ a. a < prime) numbers → slice_index numbers (degree numbers) ≡ 1
+pub well_formed_polynomial : (p prime : ℕ) (digits numbers : List ℕ) (g : Polynomial)
+    → numbers ≡ digits → IsInTable p × (prime ≡ p) → IsDegreeInRange numbers
+    → All (λ a. a < prime) numbers → slice_index numbers (degree numbers) ≡ 1
     → (g.prime ≡ prime) × (g.coefficients ≡ trim (mod_ops prime) numbers)
     → IsWellFormed p digits × (g ≡ record { prime = p; coefficients = digits })
 well_formed_polynomial p prime digits numbers g e h range valid monic made =

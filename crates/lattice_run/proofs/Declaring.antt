@@ -18,18 +18,24 @@ use Rattle.lattice_run.specs.Lattice.Declares.{named, reducible, declared}
 use Rattle.lattice_run.specs.declared.lattice.TheConstants.{MAX_FIELDS}
 use Rattle.lattice_run.proofs.Building.{same_polynomial}
 
-pub declares_named : (rows : List FieldRow) (name : List ℕ) (p : ℕ) (f : List ℕ) (g : Polynomial) (n : ℕ) (row : FieldRow) (found : Option ℕ) (reply : Reply)
-    → IsWellFormed p f × (g ≡ record { prime = p; coefficients = f }) → found ≡ field_named rows name → found ≡ Some n
-    → row ≡ slice_index_or rows n row → AnswersTakenName row g.prime g.coefficients n reply → Declares rows name p f reply rows
+-- what is answered where the name is taken
+pub declares_named : (rows : List FieldRow) (name : List ℕ) (p : ℕ) (f : List ℕ) (g : Polynomial)
+    (n : ℕ) (row : FieldRow) (found : Option ℕ) (reply : Reply)
+    → IsWellFormed p f × (g ≡ record { prime = p; coefficients = f })
+    → found ≡ field_named rows name → found ≡ Some n → row ≡ slice_index_or rows n row
+    → AnswersTakenName row g.prime g.coefficients n reply → Declares rows name p f reply rows
 declares_named rows name p f g n row found reply b e s i r =
     let here : field_named rows name ≡ Some n = sym e ∙ s in
     let within = position-Some (λ row. bytes_eq row.name name) rows n row here in
     named b.0 n row here (slice_get_read rows (length rows) n row refl within.0 i)
     (subst (λ g. AnswersTakenName row g.prime g.coefficients n reply) b.1 r) refl
 
-pub declares_reducible : (rows : List FieldRow) (name : List ℕ) (p : ℕ) (f : List ℕ) (g h : Polynomial) (found : Option ℕ)
-    → IsWellFormed p f × (g ≡ record { prime = p; coefficients = f }) → found ≡ field_named rows name → found ≡ None
-    → h.prime ≡ g.prime → IsLeastFactor (residues g.prime) nat_cmp g.coefficients h.coefficients
+-- what is answered where the polynomial has a least factor
+pub declares_reducible : (rows : List FieldRow) (name : List ℕ) (p : ℕ) (f : List ℕ)
+    (g h : Polynomial) (found : Option ℕ)
+    → IsWellFormed p f × (g ≡ record { prime = p; coefficients = f })
+    → found ≡ field_named rows name → found ≡ None → h.prime ≡ g.prime
+    → IsLeastFactor (residues g.prime) nat_cmp g.coefficients h.coefficients
     → Declares rows name p f (Refused (Reducible h)) rows
 declares_reducible rows name p f g h found b e s d l =
     reducible b.0 (sym e ∙ s) h.coefficients (subst (λ g. IsLeastFactor (residues g.prime) nat_cmp g.coefficients h.coefficients) b.1 l)
@@ -39,7 +45,8 @@ declares_reducible rows name p f g h found b e s d l =
 monic_at_the_top : (p : ℕ) (f : List ℕ) → IsMonic (residues p) f → slice_index f (degree f) ≡ 1
 monic_at_the_top p f monic = sym (leading_at (mod_ops p) f) ∙ monic
 
-field_well_formed : (row : FieldRow) → IsFieldRow row → 2 ≤ degree row.polynomial → IsWellFormed row.characteristic row.polynomial
+field_well_formed : (row : FieldRow) → IsFieldRow row → 2 ≤ degree row.polynomial
+    → IsWellFormed row.characteristic row.polynomial
 field_well_formed row field least = record {
   characteristic = field.characteristic;
   in_range = (least, field.degree);
@@ -48,7 +55,8 @@ field_well_formed row field least = record {
 }
 
 -- a name that no row has finds none
-free_name : (rows : List FieldRow) (name : List ℕ) → All (λ row. row.name ≢ name) rows → field_named rows name ≡ None
+free_name : (rows : List FieldRow) (name : List ℕ) → All (λ row. row.name ≢ name) rows
+    → field_named rows name ≡ None
 free_name rows name free = by_result (field_named rows name) refl
   where
     by_result : (found : Option ℕ) → field_named rows name ≡ found → field_named rows name ≡ None
@@ -59,7 +67,10 @@ free_name rows name free = by_result (field_named rows name) refl
         absurd (free n row found.0 ((bytes_eq-Decides (slice_index_or rows n row).name name).0 found.1))
 
 -- **a field of a free name is declared where there is room**
-pub free_name_declared : (rows : List FieldRow) (row : FieldRow) → IsFieldRow row → 2 ≤ degree row.polynomial → All (λ other. other.name ≢ row.name) rows
-    → length rows < MAX_FIELDS → Declares rows row.name row.characteristic row.polynomial (Declared (length rows) false) (rows ++ row ∷ [])
+pub free_name_declared : (rows : List FieldRow) (row : FieldRow) → IsFieldRow row
+    → 2 ≤ degree row.polynomial → All (λ other. other.name ≢ row.name) rows
+    → length rows < MAX_FIELDS
+    → Declares rows row.name row.characteristic row.polynomial
+    (Declared (length rows) false) (rows ++ row ∷ [])
 free_name_declared rows row field least free room =
     declared (field_well_formed row field least) (free_name rows row.name free) field.irreducible (omega arith) refl refl

@@ -50,7 +50,8 @@ primes_rise (suc (suc (suc (suc (suc (suc (suc (suc zero)))))))) within = lit< t
 primes_rise (suc (suc (suc (suc (suc (suc (suc (suc (suc zero))))))))) within = lit< tt
 primes_rise (suc (suc (suc (suc (suc (suc (suc (suc (suc (suc k)))))))))) within = absurd (omega (arith, within))
 
-prime_names_differ : (p q : ℕ) → IsInTable p → IsInTable q → p < q → codes "F" ++ decimal p ≢ codes "F" ++ decimal q
+prime_names_differ : (p q : ℕ) → IsInTable p → IsInTable q → p < q
+    → codes "F" ++ decimal p ≢ codes "F" ++ decimal q
 prime_names_differ p q h l less e =
     let first : (1 < p) × (p < 32) = characteristic_small p h in
     let second : (1 < q) × (q < 32) = characteristic_small q l in
@@ -67,6 +68,7 @@ opening_names i j d less within =
     (subst (λ other. (prime_field p).name ≢ other.name) (sym second)
     (prime_names_differ p q (All-contains_itself characteristics i 0 (omega arith)) (All-contains_itself characteristics j 0 within) (AllPairs-from_increasing characteristics primes_rise i j 0 less within)))
 
+-- **the prime fields are a lattice**
 pub opening_is_lattice : IsLattice opening
 opening_is_lattice = record {
   prime_fields = refl;
@@ -94,8 +96,8 @@ abbrev IsFurtherRow : FieldRow → Type 0
 IsFurtherRow row = IsFieldRow row × (2 ≤ degree row.polynomial)
 
 -- one more field, of a name that finds none
-pub lattice_push : (rows : List FieldRow) (row : FieldRow) → IsLattice rows → IsFurtherRow row → field_named rows row.name ≡ None
-    → length rows < MAX_FIELDS → IsLattice (rows ++ row ∷ [])
+pub lattice_push : (rows : List FieldRow) (row : FieldRow) → IsLattice rows → IsFurtherRow row
+    → field_named rows row.name ≡ None → length rows < MAX_FIELDS → IsLattice (rows ++ row ∷ [])
 lattice_push rows row l field none room = record {
   prime_fields = take-append-le (length characteristics) rows (row ∷ []) (opening_fits rows l) ∙ l.prime_fields;
   fields = All-append IsFieldRow rows (row ∷ []) l.fields (All-cons IsFieldRow row [] field.0 (All-nil IsFieldRow));
@@ -106,13 +108,16 @@ lattice_push rows row l field none room = record {
   room = grind (arith, common_steps);
 }
 
-pub well_formed_field : (name : List ℕ) (p : ℕ) (f : List ℕ) → IsWellFormed p f → IsIrreducible (residues p) f
+-- what is well formed and irreducible makes a field of degree 2 or more
+pub well_formed_field : (name : List ℕ) (p : ℕ) (f : List ℕ) → IsWellFormed p f
+    → IsIrreducible (residues p) f
     → IsFurtherRow (record { name = name; characteristic = p; polynomial = f })
 well_formed_field name p f w irreducible =
     (record { characteristic = w.characteristic; monic = well_formed_monic p f w; irreducible = irreducible; degree = w.in_range.1 }, w.in_range.0)
 
 -- **declaring keeps the lattice one of fields**
-pub declaring_keeps : (rows new : List FieldRow) (name : List ℕ) (p : ℕ) (f : List ℕ) (reply : Reply) → IsLattice rows → Declares rows name p f reply new → IsLattice new
+pub declaring_keeps : (rows new : List FieldRow) (name : List ℕ) (p : ℕ) (f : List ℕ)
+    (reply : Reply) → IsLattice rows → Declares rows name p f reply new → IsLattice new
 declaring_keeps rows new name p f reply l (malformed refusal m a same) = subst IsLattice (sym same) l
 declaring_keeps rows new name p f reply l (named w n row found at answer same) = subst IsLattice (sym same) l
 declaring_keeps rows new name p f reply l (reducible w none g least a same) = subst IsLattice (sym same) l
@@ -122,14 +127,17 @@ declaring_keeps rows new name p f reply l (declared w none irreducible have a mo
     (lattice_push rows (record { name = name; characteristic = p; polynomial = f }) l (well_formed_field name p f w irreducible) none (omega arith))
 
 -- a row was pushed, or there was no memory
-pub lattice_push_if : (b : Bool) (rows items : List FieldRow) (row : FieldRow) → items ≡ (if b then rows ++ row ∷ [] else rows)
-    → IsLattice rows → IsFurtherRow row → field_named rows row.name ≡ None → length rows < MAX_FIELDS → IsLattice items
+pub lattice_push_if : (b : Bool) (rows items : List FieldRow) (row : FieldRow)
+    → items ≡ (if b then rows ++ row ∷ [] else rows) → IsLattice rows → IsFurtherRow row
+    → field_named rows row.name ≡ None → length rows < MAX_FIELDS → IsLattice items
 lattice_push_if true rows items row e l field none room = subst IsLattice (sym e) (lattice_push rows row l field none room)
 lattice_push_if false rows items row e l field none room = subst IsLattice (sym e) l
 
 -- a field, from the polynomial that was made
-pub made_field : (name : List ℕ) (p : ℕ) (f : List ℕ) (g : Polynomial) → IsWellFormed p f × (g ≡ record { prime = p; coefficients = f })
-    → IsIrreducible (residues g.prime) g.coefficients → IsFurtherRow (record { name = name; characteristic = g.prime; polynomial = g.coefficients })
+pub made_field : (name : List ℕ) (p : ℕ) (f : List ℕ) (g : Polynomial)
+    → IsWellFormed p f × (g ≡ record { prime = p; coefficients = f })
+    → IsIrreducible (residues g.prime) g.coefficients
+    → IsFurtherRow (record { name = name; characteristic = g.prime; polynomial = g.coefficients })
 made_field name p f g b irreducible =
     subst (λ g. IsIrreducible (residues g.prime) g.coefficients → IsFurtherRow (record { name = name; characteristic = g.prime; polynomial = g.coefficients }))
     (sym b.1) (λ i. well_formed_field name p f b.0 i) irreducible

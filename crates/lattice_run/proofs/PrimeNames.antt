@@ -14,6 +14,7 @@ digits_named : (ds : List ℕ) → AllBelowBase 10 ds → All IsNameByte (map (�
 digits_named [] h = All-nil IsNameByte
 digits_named (d ∷ ds) h = All-cons IsNameByte (48 + d) (map (λ d. 48 + d) ds) (inl (inl (inl (omega arith, let b : d < 10 = h.0 in omega arith)))) (digits_named ds h.1)
 
+-- the name of a prime field is a declared name
 pub prime_named : (p : ℕ) → IsInTable p → IsDeclaredName (codes "F" ++ decimal p)
 prime_named p h =
     let small : (1 < p) × (p < 32) = characteristic_small p h in
@@ -26,7 +27,8 @@ prime_named p h =
 one_digit : (d : ℕ) → d < 10 → codes "F" ++ decimal d ≡ codes "F" ++ (48 + d) ∷ []
 one_digit d below = ap (λ ds. codes "F" ++ ds) (decimal_digit d below)
 
-two_digits : (n : ℕ) → 10 ≤ n → n / 10 < 10 → n < 2 ^ 64 → codes "F" ++ decimal n ≡ codes "F" ++ (48 + n / 10) ∷ (48 + n % 10) ∷ []
+two_digits : (n : ℕ) → 10 ≤ n → n / 10 < 10 → n < 2 ^ 64
+    → codes "F" ++ decimal n ≡ codes "F" ++ (48 + n / 10) ∷ (48 + n % 10) ∷ []
 two_digits n above below fits =
     ap (λ ds. codes "F" ++ ds) (decimal_step n above fits ∙ ap (λ ds. ds ++ (48 + n % 10) ∷ []) (decimal_digit (n / 10) below))
 

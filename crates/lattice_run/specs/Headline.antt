@@ -15,8 +15,8 @@ use Rattle.lattice_run.specs.Transcript.{IsTranscript}
 
 pub record Headline (words : List (List ℕ)) (source source' sink sink' : Stream) (status : ℕ)
     : Type 0 where
-  -- Status 0: the source was read to its end, its bytes spell one script, and the transcript of that
-  -- script was appended.
+  -- Status 0: the source was read to its end, its bytes spell one script, and the transcript of
+  -- that script was appended.
   pub done : status ≡ DONE → (input : List ℕ) × (script : Script) × (text : List ℕ)
       × ReadWhole source.bytes source'.bytes input × Spells input script
       × IsTranscript script.prologue text × Appends sink.bytes sink'.bytes text
@@ -27,7 +27,8 @@ pub record Headline (words : List (List ℕ)) (source source' sink sink' : Strea
   -- Status 4: the words are `solo`, a read failed, and nothing was appended.
   pub read_failed : status ≡ READ_FAILED → IsSolo words
       × (source'.faults ≡ one_more source.faults) × Keeps sink.bytes sink'.bytes
-  -- Status 5: a write failed, and a front of the text of the answer was appended, and not all of it.
+  -- Status 5: a write failed, and a front of the text of the answer was appended, and not all of
+  -- it.
   pub write_failed : status ≡ WRITE_FAILED → (sink'.faults ≡ one_more sink.faults)
       × (input : List ℕ) × (answer : ℕ) × (text : List ℕ)
       × IsInput words input source.bytes source'.bytes × Answers words input answer text

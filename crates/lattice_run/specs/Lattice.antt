@@ -1,5 +1,5 @@
 -- The lattice: its list of fields, and what declaring a field answers and adds.
---     characteristics           the table of characteristics: 2, 3, 5, 7, 11, 13, 17, 19, 23, 29, 31
+--     characteristics           the table of characteristics, from 2 to 31
 --     FieldRow                  a field's name, characteristic and polynomial
 --     IsFieldRow row            the characteristic is in the table, the polynomial monic and
 --                               irreducible over it, of degree at most TOP_DEGREE
@@ -38,7 +38,11 @@ pub record FieldRow : Type 0 where
 
 -- the field of p elements, whose polynomial is x
 abbrev pub prime_field : ℕ → FieldRow
-prime_field p = record { name = codes "F" ++ decimal p; characteristic = p; polynomial = 0 ∷ 1 ∷ [] }
+prime_field p = record {
+  name = codes "F" ++ decimal p;
+  characteristic = p;
+  polynomial = 0 ∷ 1 ∷ [];
+}
 
 abbrev pub opening : List FieldRow
 opening = map prime_field characteristics

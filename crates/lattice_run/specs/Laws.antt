@@ -37,7 +37,8 @@ OpeningIsLattice = IsLattice opening
 
 -- declaring leaves a lattice
 abbrev pub DeclaringKeepsLattice : Type 0
-DeclaringKeepsLattice = (rows new : List FieldRow) (name : List ℕ) (p : ℕ) (f : List ℕ) (reply : Reply)
+DeclaringKeepsLattice = (rows new : List FieldRow) (name : List ℕ) (p : ℕ) (f : List ℕ)
+    → (reply : Reply)
     → IsLattice rows → Declares rows name p f reply new → IsLattice new
 
 -- ---- declarations

@@ -15,7 +15,8 @@ pub data Delivers (status : ℕ) (text : List ℕ) (sink sink' : Stream) (result
       → AppendsPart sink.bytes sink'.bytes text → Delivers status text sink sink' result
 
 -- an answer was delivered, a read failed, or there was no memory
-pub data Ran (words : List (List ℕ)) (source source' sink sink' : Stream) (result : ℕ) : Type 0 where
+pub data Ran (words : List (List ℕ)) (source source' sink sink' : Stream) (result : ℕ)
+    : Type 0 where
   delivered : (input : List ℕ) (status : ℕ) (text : List ℕ) → source'.faults ≡ source.faults
       → IsInput words input source.bytes source'.bytes → Answers words input status text
       → Delivers status text sink sink' result → Ran words source source' sink sink' result

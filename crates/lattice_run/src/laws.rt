@@ -1,5 +1,5 @@
-//! Laws of the lattice, of transcripts and of answers: functions that do nothing, whose clauses say what
-//! holds of the definitions.
+//! Laws of the lattice, of transcripts and of answers: functions that do nothing, whose clauses say
+//! what holds of the definitions.
 ghost use Rattle.std.specs.Prelude.{◌≡◌};
 ghost use Rattle.lattice_run.specs.declared.lattice.TheConstants.{MAX_FIELDS, TOP_DEGREE};
 ghost use Rattle.lattice_run.specs.declared.run.TheConstants.{MAX_INPUT};

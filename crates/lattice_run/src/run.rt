@@ -132,7 +132,8 @@ fn run<S: Source, K: Sink>(alloc: Global, words: &[String], source: &mut S, sink
 ///
 /// `words` are the words after the program's name. The answer is one of these statuses:
 ///
-/// - [`DONE`]: `words` are `solo` alone, and the input spells a script; its transcript was appended.
+/// - [`DONE`]: `words` are `solo` alone, and the input spells a script; its transcript was
+///   appended.
 /// - [`NO_COMMAND`]: `words` are others; the usage line was appended, and nothing read.
 /// - [`BAD_SCRIPT`]: the input has more than `MAX_INPUT` bytes or spells no script; its fault line
 ///   was appended.

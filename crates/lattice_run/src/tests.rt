@@ -1,4 +1,5 @@
-//! Runs over memory: the words, the source and the sink of each, and the status and the bytes that come of it.
+//! Runs over memory: the words, the source and the sink of each, and the status and the bytes that
+//! come of it.
 ghost use Rattle.std.specs.Prelude.{◌≤◌};
 
 use crate::run_plain;
@@ -101,7 +102,8 @@ fn expect_read(
     Ok(())
 }
 
-// Plays one declaration into a sink of this room that takes such pieces, whose calls of these numbers fail.
+// Plays one declaration into a sink of this room that takes such pieces, whose calls of these
+// numbers fail.
 fn expect_write(
     rt: &impl Abort,
     alloc: Global,
@@ -196,7 +198,8 @@ fn meets_failing_sources(rt: HostRuntime) -> Result<(), Fail> {
     expect_read(&rt, alloc, 100, &[3], DONE, QUADRATIC_TEXT)
 }
 
-// After a read fault nothing more is read: what is left begins where the last read that succeeded ended.
+// After a read fault nothing more is read: what is left begins where the last read that succeeded
+// ended.
 #[test]
 fn reads_no_further_after_a_fault(rt: HostRuntime) -> Result<(), Fail> {
     let alloc = rt.alloc();
