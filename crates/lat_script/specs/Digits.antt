@@ -3,7 +3,7 @@
 --     digits_text c     the numbers in decimal, joined by single commas
 use Rattle.std.specs.Prelude.{ℕ, ◌<◌, ◌≤◌, List, length, map, All, decimal}
 use Rattle.std.specs.List.{join_with_byte}
-use Rattle.lat_script.specs.declared.numerals.TheConstants.{MAX_DIGITS}
+use Rattle.lat_script.specs.declared.digits.TheConstants.{MAX_DIGITS}
 
 pub record AreDigits (c : List ℕ) : Type 0 where
   pub not_empty : 0 < length c

@@ -2,9 +2,9 @@
 
 ghost use Rattle.std.specs.Prelude.{◌≡◌, [], ◌∷◌, ◌++◌, OnOk, OnErr};
 
+use crate::digits::Digits;
 use crate::faults::NoMemory;
 use crate::names::FieldName;
-use crate::numerals::Digits;
 use std::alloc::Global;
 use std::marker::Model;
 
@@ -65,10 +65,8 @@ impl CommandList {
         ensures ok { OnOk result (self.new ≡ self.old ++ command ∷ []) }
         ensures err { OnErr result (self.new ≡ self.old) }
     {
-        match self.items.push(command) {
-            Ok(()) => Ok(()),
-            Err(_) => Err(NoMemory),
-        }
+        self.items.push(command)?;
+        Ok(())
     }
 }
 

@@ -5,7 +5,7 @@ ghost use Rattle.std.specs.Prelude.{◌≡◌, ◌≢◌, ◌⊎◌, ℕ, ◌<�
 ghost use Rattle.lat_script.specs.Digits.{AreDigits, digits_text};
 
 use crate::cutting::cut;
-use crate::numerals::{Digits, MAX_DIGITS};
+use crate::digits::{Digits, MAX_DIGITS};
 use arrayvec::ArrayVec;
 
 // Whether a zero stands before other digits.

@@ -5,31 +5,31 @@ ghost use Rattle.std.specs.Int.{IsInRange};
 ghost use Rattle.lat_script.specs.declared.commands.Command.{Command};
 ghost use Rattle.lat_script.specs.declared.commands.Script.{Script};
 ghost use Rattle.lat_script.specs.declared.names.TheConstants.{MAX_NAME};
-ghost use Rattle.lat_script.specs.declared.numerals.TheConstants.{MAX_DIGITS};
-ghost use Rattle.lat_script.specs.Grammar.{opening, words_of, IsPassedOver, header_words, SpellsCommand, Spells, FirstBad};
-ghost use Rattle.lat_script.specs.Parsing.{at_line, TakesLine, Reads};
+ghost use Rattle.lat_script.specs.declared.digits.TheConstants.{MAX_DIGITS};
+ghost use Rattle.lat_script.specs.Grammar.{at_start, words_of, IsPassedOver, header_words, SpellsCommand, Spells, FirstBad};
+ghost use Rattle.lat_script.specs.declared.parsing.LineFault.TheVariants.{NoMemory as no_memory};
+ghost use Rattle.lat_script.specs.PrivateParsing.{at_line, TakesLine, Reads};
 
 use crate::commands::{CommandList, MAX_COMMANDS, MAX_LINE, MAX_SCRIPT, Script};
 use crate::cutting::first_line;
-use crate::faults::ScriptFault;
-use crate::reading::{command, is_header, is_passed_over};
+use crate::faults::{NO_FORM, NO_HEADER, NoMemory, ScriptFault, TOO_LONG, TOO_MANY_COMMANDS};
+use crate::line_forms::{command, is_header, is_passed_over};
 use std::alloc::Global;
 use std::marker::Model;
-
-// The kinds of fault.
-const NO_HEADER: u32 = 1;
-
-const TOO_LONG: u32 = 2;
-
-const NO_FORM: u32 = 3;
-
-const TOO_MANY_COMMANDS: u32 = 6;
 
 // Why a line wasn't taken.
 #[derive(Drop)]
 enum LineFault {
     Bad(u32),
     NoMemory,
+}
+
+impl From<NoMemory> for LineFault {
+    ghost from_gives = { λ _ made. made ≡ no_memory };
+
+    fn from(_error: NoMemory) -> LineFault {
+        LineFault::NoMemory
+    }
 }
 
 impl LineFault {
@@ -61,7 +61,7 @@ impl Model for Reader {
 
 impl Reader {
     fn new(alloc: Global) -> Reader
-        ensures { result ≡ opening }
+        ensures { result ≡ at_start }
     {
         Reader {
             begun: false,
@@ -70,7 +70,7 @@ impl Reader {
     }
 
     // Adds the command that the line is.
-    #[tactic(auto, using(crate::proofs::GrammarLemmas::says_no_form))]
+    #[tactic(auto, using(crate::proofs::LineMeanings::says_no_form))]
     fn take_command(&mut self, line: &[u8]) -> Result<(), LineFault>
         requires begun { self.old.begun ≡ true }
         requires fits { length line.now ≤ MAX_LINE }
@@ -84,14 +84,12 @@ impl Reader {
         if full {
             return Err(LineFault::Bad(TOO_MANY_COMMANDS));
         }
-        let Ok(()) = self.prologue.push(command) else {
-            return Err(LineFault::NoMemory);
-        };
+        self.prologue.push(command)?;
         Ok(())
     }
 
     // Takes the next line.
-    #[tactic(auto, using(crate::proofs::GrammarLemmas::says_too_long, crate::proofs::GrammarLemmas::says_no_header))]
+    #[tactic(auto, using(crate::proofs::LineMeanings::says_too_long, crate::proofs::LineMeanings::says_no_header))]
     fn take(&mut self, line: &[u8]) -> Result<(), LineFault>
         ensures { TakesLine self.old line.now self.new result }
     {

@@ -1,11 +1,11 @@
 //! The lines that the program prints.
 
 ghost use Rattle.std.specs.Prelude.{◌≡◌, [], ◌++◌, if◌then◌else◌, codes, decimal, OnOk, OnErr};
-ghost use Rattle.lat_script.specs.Pieces.{Extends};
+ghost use Rattle.lat_script.specs.PrivateAppending.{Extends};
 ghost use Rattle.lat_script.specs.Texts.{refusal_text, reply_text, outcome_text, line_text, summary_text, bad_line_text, too_long_text, usage_text};
 
+use crate::appending::{Piece, append};
 use crate::faults::NoMemory;
-use crate::pieces::{Piece, append};
 use crate::replies::{Line, Outcome, Reply, StepRefusal};
 
 fn add_refusal(out: &mut Vec<u8>, refusal: &StepRefusal) -> Result<(), NoMemory>
@@ -89,20 +89,18 @@ fn add_mark(out: &mut Vec<u8>, mark: u32) -> Result<(), NoMemory>
     )
 }
 
-#[tactic(auto, using(crate::proofs::PieceLemmas::extends_same, crate::proofs::PieceLemmas::extends_text))]
+#[tactic(auto, using(crate::proofs::AppendedTexts::extends_same, crate::proofs::AppendedTexts::extends_text))]
 fn put_line(out: &mut Vec<u8>, line: &Line) -> Result<(), NoMemory>
     ensures ok { OnOk result (out.new.items ≡ out.old.items ++ line_text line.now) }
     ensures err { OnErr result (Extends out.old.items out.new.items) }
 {
-    let Ok(()) = add_outcome(out, &line.outcome) else {
-        return Err(NoMemory);
-    };
+    add_outcome(out, &line.outcome)?;
     add_mark(out, line.mark)
 }
 
 /// Appends a line of the transcript: the answer to a command, a space, `@`, the mark, and a line feed.
 /// Where memory is refused nothing is appended.
-#[tactic(auto, using(crate::proofs::PieceLemmas::begins_with))]
+#[tactic(auto, using(crate::proofs::AppendedTexts::begins_with))]
 pub fn add_line(out: &mut Vec<u8>, line: &Line) -> Result<(), NoMemory>
     ensures ok { OnOk result (out.new.items ≡ out.old.items ++ line_text line.now) }
     ensures err { OnErr result (out.new.items ≡ out.old.items) }

@@ -2,9 +2,9 @@
 use Rattle.std.proofs.Common.{◌≡◌, ◌<◌, ◌≤◌, ◌++◌, ◌∷◌, [], length, map, sym, ap, ◌∙◌, subst}
 use Rattle.std.specs.Prelude.{decimal}
 use Rattle.std.proofs.lemmas.List.Elements.{All-push}
-use Rattle.lat_script.specs.declared.numerals.TheConstants.{MAX_DIGITS}
+use Rattle.lat_script.specs.declared.digits.TheConstants.{MAX_DIGITS}
 use Rattle.lat_script.specs.Digits.{AreDigits}
-use Rattle.lat_script.proofs.DigitLemmas.{not_digits, push_parts, are_pushed, digits_found}
+use Rattle.lat_script.proofs.CoefficientLists.{not_digits, push_parts, are_pushed, digits_found}
 use Rattle.lat_script.proofs.numbers.digits.Goals as goal
 
 pub returns-in_err-push_number : goal.returns-in_err-push_number

@@ -6,7 +6,7 @@ use Rattle.std.proofs.lemmas.List.Splits.{slice_split_first}
 use Rattle.std.proofs.lemmas.List.{drop_more, take_rest, nil_from_length}
 use Rattle.std.proofs.lemmas.Bool.{eqb-true, eqb-false, ne_eqb, lt-ltb, le-ltb, cases_lt, cond_below, cond-true, cond-false}
 use Rattle.lat_script.specs.Grammar.{lines_of_parts, lines_of, words_of}
-use Rattle.lat_script.specs.Cuts.{TakesFirst, CutsFirst}
+use Rattle.lat_script.specs.PrivateCuts.{IsFirstPart, IsCutAt}
 
 -- a text has a first part
 pub split_cons : (p : ℕ → Bool) (text : List ℕ) → (first : List ℕ) × (more : List (List ℕ)) × (slice_split p text ≡ first ∷ more)
@@ -30,7 +30,7 @@ pub lines_none : lines_of [] ≡ []
 unfolding lines_of
 lines_none = refl
 
-pub first_line_taken : (text line rest : List ℕ) → 0 < length text → CutsFirst 10 text line rest → TakesFirst lines_of text line rest
+pub first_line_taken : (text line rest : List ℕ) → 0 < length text → IsCutAt 10 text line rest → IsFirstPart lines_of text line rest
 unfolding lines_of
 first_line_taken text line rest some (inl cut) =
     let next = split_cons (λ b. b == 10) rest in
@@ -63,7 +63,7 @@ first_part_not_empty (x ∷ xs) first more some other cut =
     let e : x ∷ rest.0 ≡ first = cc in
     subst (λ f. 0 < length f) e (omega arith)
 
-pub first_word_taken : (text word rest : List ℕ) → 0 < length text → get_or text 0 0 ≢ 32 → CutsFirst 32 text word rest → TakesFirst words_of text word rest
+pub first_word_taken : (text word rest : List ℕ) → 0 < length text → get_or text 0 0 ≢ 32 → IsCutAt 32 text word rest → IsFirstPart words_of text word rest
 unfolding words_of
 first_word_taken text word rest some other (inl cut) =
     let whole = first_part_not_empty text word _ some other cut.0 in
@@ -86,7 +86,7 @@ cut_none p text none = elim (cases_lt (position_or_len p text) (length text)) [
   | inr l ↦ not_cut p text l
 ]
 
-pub cut_some : (p : ℕ → Bool) (text : List ℕ) (i : ℕ) → position p text ≡ Some i → TakesFirst (slice_split p) text (take i text) (take (length text - (i + 1)) (drop (i + 1) text))
+pub cut_some : (p : ℕ → Bool) (text : List ℕ) (i : ℕ) → position p text ≡ Some i → IsFirstPart (slice_split p) text (take i text) (take (length text - (i + 1)) (drop (i + 1) text))
 cut_some p text i some = elim (cases_lt (position_or_len p text) (length text)) [
   | inl l ↦
       let e : position p text ≡ Some (position_or_len p text) = sym (cond_below _ _ _ _ l) in

@@ -9,7 +9,7 @@ use Rattle.std.proofs.lemmas.List.{map-append, length_push, append-nil}
 use Rattle.std.proofs.lemmas.List.Splits.{slice_split_none, slice_split_at, join_with_byte-slice_split}
 use Rattle.std.proofs.lemmas.List.Elements.{All-head, All-tail, All-cons, All-push, All-nil}
 use Rattle.std.proofs.lemmas.Bool.{ne_eqb}
-use Rattle.lat_script.specs.declared.numerals.TheConstants.{MAX_DIGITS}
+use Rattle.lat_script.specs.declared.digits.TheConstants.{MAX_DIGITS}
 use Rattle.lat_script.specs.Digits.{AreDigits, digits_text}
 
 -- between commas

@@ -1,6 +1,6 @@
 use Rattle.std.proofs.Common.{◌≡◌, ◌++◌, take}
 use Rattle.lat_script.specs.Digits.{digits_text}
-use Rattle.lat_script.proofs.pieces.put_numbers.Given as goal
+use Rattle.lat_script.proofs.appending.put_numbers.Given as goal
 
 -- the numbers so far are appended
 abbrev pub invariant-loop-i : goal.invariant-loop-i

@@ -1,6 +1,6 @@
 use Rattle.std.proofs.Common.{◌≡◌, ◌++◌, take}
-use Rattle.lat_script.specs.Pieces.{pieces_text}
-use Rattle.lat_script.proofs.pieces.put_all.Given as goal
+use Rattle.lat_script.specs.PrivateAppending.{pieces_text}
+use Rattle.lat_script.proofs.appending.put_all.Given as goal
 
 -- the pieces so far are appended
 abbrev pub invariant-loop-piece : goal.invariant-loop-piece

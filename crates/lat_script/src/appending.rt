@@ -2,7 +2,7 @@
 
 ghost use Rattle.std.specs.Prelude.{◌≡◌, ◌++◌, decimal, OnOk, OnErr};
 ghost use Rattle.lat_script.specs.Digits.{digits_text};
-ghost use Rattle.lat_script.specs.Pieces.{Extends, separator, piece_text, pieces_text};
+ghost use Rattle.lat_script.specs.PrivateAppending.{Extends, separator, piece_text, pieces_text};
 
 use crate::faults::NoMemory;
 use itoa::Buffer;
@@ -19,10 +19,8 @@ fn put_text(out: &mut Vec<u8>, text: &[u8]) -> Result<(), NoMemory>
     ensures ok { OnOk result (out.new.items ≡ out.old.items ++ text.now) }
     ensures err { OnErr result (out.new.items ≡ out.old.items) }
 {
-    match out.extend_from_slice(text) {
-        Ok(()) => Ok(()),
-        Err(_) => Err(NoMemory),
-    }
+    out.extend_from_slice(text)?;
+    Ok(())
 }
 
 fn put_number(out: &mut Vec<u8>, number: u32) -> Result<(), NoMemory>
@@ -33,7 +31,7 @@ fn put_number(out: &mut Vec<u8>, number: u32) -> Result<(), NoMemory>
     put_text(out, buffer.format(number).as_bytes())
 }
 
-#[tactic(auto, using(crate::proofs::PieceLemmas::separator_first, crate::proofs::PieceLemmas::separator_next))]
+#[tactic(auto, using(crate::proofs::AppendedTexts::separator_first, crate::proofs::AppendedTexts::separator_next))]
 // The comma before the number at this place, if it isn't the first.
 fn put_separator(out: &mut Vec<u8>, place: usize) -> Result<(), NoMemory>
     ensures ok { OnOk result (out.new.items ≡ out.old.items ++ separator place) }
@@ -45,7 +43,7 @@ fn put_separator(out: &mut Vec<u8>, place: usize) -> Result<(), NoMemory>
     put_text(out, b",")
 }
 
-#[tactic(auto, using(crate::proofs::PieceLemmas::extends_text, crate::proofs::PieceLemmas::extends_after))]
+#[tactic(auto, using(crate::proofs::AppendedTexts::extends_text, crate::proofs::AppendedTexts::extends_after))]
 fn put_numbers(out: &mut Vec<u8>, numbers: &[u8]) -> Result<(), NoMemory>
     ensures ok { OnOk result (out.new.items ≡ out.old.items ++ digits_text numbers.now) }
     ensures err { OnErr result (Extends out.old.items out.new.items) }
@@ -57,7 +55,7 @@ fn put_numbers(out: &mut Vec<u8>, numbers: &[u8]) -> Result<(), NoMemory>
     Ok(())
 }
 
-#[tactic(auto, using(crate::proofs::PieceLemmas::extends_same))]
+#[tactic(auto, using(crate::proofs::AppendedTexts::extends_same))]
 fn put(out: &mut Vec<u8>, piece: &Piece) -> Result<(), NoMemory>
     ensures ok { OnOk result (out.new.items ≡ out.old.items ++ piece_text piece.now) }
     ensures err { OnErr result (Extends out.old.items out.new.items) }
@@ -69,7 +67,7 @@ fn put(out: &mut Vec<u8>, piece: &Piece) -> Result<(), NoMemory>
     }
 }
 
-#[tactic(auto, using(crate::proofs::PieceLemmas::extends_after))]
+#[tactic(auto, using(crate::proofs::AppendedTexts::extends_after))]
 fn put_all(out: &mut Vec<u8>, pieces: &[Piece]) -> Result<(), NoMemory>
     ensures ok { OnOk result (out.new.items ≡ out.old.items ++ pieces_text pieces.now) }
     ensures err { OnErr result (Extends out.old.items out.new.items) }
@@ -80,7 +78,7 @@ fn put_all(out: &mut Vec<u8>, pieces: &[Piece]) -> Result<(), NoMemory>
     Ok(())
 }
 
-#[tactic(auto, using(crate::proofs::PieceLemmas::begins_with))]
+#[tactic(auto, using(crate::proofs::AppendedTexts::begins_with))]
 // Appends the pieces in their order. Where memory is refused nothing is appended.
 pub(crate) fn append(out: &mut Vec<u8>, pieces: &[Piece]) -> Result<(), NoMemory>
     ensures ok { OnOk result (out.new.items ≡ out.old.items ++ pieces_text pieces.now) }

@@ -15,7 +15,7 @@ use Rattle.lat_script.specs.declared.commands.Command.TheVariants.{Field}
 use Rattle.lat_script.specs.Names.{IsNameByte, IsDeclaredName}
 use Rattle.lat_script.specs.Digits.{AreDigits, digits_text}
 use Rattle.lat_script.specs.Grammar.{words_of, header_words, command_words, IsCommand, SpellsCommand}
-use Rattle.lat_script.proofs.CutLemmas.{split_cons, is_word, word_taken}
+use Rattle.lat_script.proofs.LinesAndWords.{split_cons, is_word, word_taken}
 
 abbrev IsPrintable : ℕ → Type 0
 IsPrintable b = IsInRange 32 126 b

@@ -3,10 +3,10 @@ use Rattle.std.specs.Prelude.{◌≡◌, ◌⊎◌, ℕ, ◌<◌, ◌==◌, List
 use Rattle.std.specs.List.{slice_split}
 
 -- the first of the parts of a text is this one, and the others are those of the rest, which is shorter
-abbrev pub TakesFirst : (List ℕ → List (List ℕ)) → List ℕ → List ℕ → List ℕ → Type 0
-TakesFirst parts_of text first rest = (parts_of text ≡ first ∷ parts_of rest) × (length rest < length text)
+abbrev pub IsFirstPart : (List ℕ → List (List ℕ)) → List ℕ → List ℕ → List ℕ → Type 0
+IsFirstPart parts_of text first rest = (parts_of text ≡ first ∷ parts_of rest) × (length rest < length text)
 
 -- the same for the parts between such bytes, or there is no such byte, and nothing is left
-abbrev pub CutsFirst : ℕ → List ℕ → List ℕ → List ℕ → Type 0
-CutsFirst byte text first rest = TakesFirst (slice_split (λ b. b == byte)) text first rest
+abbrev pub IsCutAt : ℕ → List ℕ → List ℕ → List ℕ → Type 0
+IsCutAt byte text first rest = IsFirstPart (slice_split (λ b. b == byte)) text first rest
     ⊎ ((slice_split (λ b. b == byte) text ≡ first ∷ []) × (first ≡ text) × (rest ≡ []))

@@ -1,27 +1,24 @@
--- A text has a reading: each condition on a line holds or fails.
-use Rattle.std.proofs.Common.{◌≡◌, ℕ, zero, suc, ◌+◌, ◌<◌, ◌≤◌, ◌^◌, true, false, cond, Option, Some, None, Result, Ok, Err, List, [], ◌∷◌, length, map, sym, refl, ap, ◌∙◌, subst, inl, inr, arith}
+-- Each condition on the words of a line holds or fails.
+use Rattle.std.proofs.Common.{◌≡◌, ℕ, zero, suc, ◌<◌, ◌≤◌, ◌^◌, Option, Some, None, List, [], ◌∷◌, length, map, sym, refl, ap, ◌∙◌, subst, inl, inr, arith}
 use Rattle.std.specs.Prelude.{◌⊎◌, ◌≢◌, ◌==◌, not, find, codes, decimal, All, IfSome}
 use Rattle.std.specs.Char.{IsAsciiAlphabetic}
 use Rattle.std.specs.Int.{IsInRange}
 use Rattle.std.specs.List.{slice_split}
 use Rattle.std.proofs.lemmas.List.{length-map}
 use Rattle.std.proofs.lemmas.List.Elements.{All-head, All-tail, All-cons, All-nil}
-use Rattle.std.proofs.lemmas.Bool.{cases_eq, cases_lt, cases_Bool}
-use Rattle.lat_script.specs.declared.commands.TheConstants.{MAX_LINE, MAX_COMMANDS}
+use Rattle.std.proofs.lemmas.Bool.{cases_eq, cases_lt}
 use Rattle.lat_script.specs.declared.commands.Command.{Command}
 use Rattle.lat_script.specs.declared.commands.Command.TheVariants.{Field}
-use Rattle.lat_script.specs.declared.commands.Script.{Script}
 use Rattle.lat_script.specs.declared.names.TheConstants.{MAX_NAME}
-use Rattle.lat_script.specs.declared.numerals.TheConstants.{MAX_DIGITS}
+use Rattle.lat_script.specs.declared.digits.TheConstants.{MAX_DIGITS}
 use Rattle.lat_script.specs.Names.{IsNameByte, IsDeclaredName}
 use Rattle.lat_script.specs.Digits.{AreDigits, digits_text}
-use Rattle.lat_script.specs.Grammar.{lines_of, words_of, IsPassedOver, header_words, SpellsCommand, State, opening, script_of, Row, Passed, Header, Run, after, Says, Means, Spells, FirstBad}
-use Rattle.lat_script.proofs.CutLemmas.{split_cons}
-use Rattle.lat_script.proofs.DigitLemmas.{parts-digits_text, digits_text_from_parts}
-use Rattle.lat_script.proofs.GrammarLemmas.{says_too_long, says_no_header, says_passed, says_header, says_no_form, says_too_many, says_command}
+use Rattle.lat_script.specs.Grammar.{IsPassedOver, SpellsCommand}
+use Rattle.lat_script.proofs.LinesAndWords.{split_cons}
+use Rattle.lat_script.proofs.CoefficientLists.{parts-digits_text, digits_text_from_parts}
 
 -- a statement that holds or fails
-abbrev Decided : Type 0 → Type 0
+abbrev pub Decided : Type 0 → Type 0
 Decided P = P ⊎ ¬ P
 
 both : {P Q : Type 0} → Decided P → Decided Q → Decided (P × Q)
@@ -69,7 +66,7 @@ same_lists same (x ∷ xs) (y ∷ ys) = same_cons x y xs ys (same x y) (same_lis
 same_text : (v w : List ℕ) → Decided (v ≡ w)
 same_text = same_lists cases_eq
 
-same_words : (v w : List (List ℕ)) → Decided (v ≡ w)
+pub same_words : (v w : List (List ℕ)) → Decided (v ≡ w)
 same_words = same_lists same_text
 
 decide_all : {A : Type 0} (P : A → Type 0) → ((x : A) → Decided (P x)) → (xs : List A) → Decided (All P xs)
@@ -103,7 +100,7 @@ decide_number word (suc n) = at_last (same_text word (decimal n)) (decide_number
     | inr l ↦ let last : h.0 ≡ n = omega (arith, h.1, l) in other (h.2 ∙ ap decimal last)
   ])
 
--- numbers below 256 in a row
+-- numbers below 256 in a form
 abbrev AreNumbers : List (List ℕ) → Type 0
 AreNumbers parts = (c : List ℕ) × All (λ n. n < 256) c × (parts ≡ map decimal c)
 
@@ -152,7 +149,7 @@ decide_digits word = by_parts (decide_numbers (parts_of word)) where
   by_parts (inr none) = inr (λ h. none (h.0, h.1.bytes, ap parts_of h.2 ∙ parts-digits_text h.0 h.1))
 
 -- the words of a command
-abbrev SpellsSome : List (List ℕ) → Type 0
+abbrev pub SpellsSome : List (List ℕ) → Type 0
 SpellsSome words = (c : Command) × SpellsCommand words c
 
 spells_operands : (verb name p poly : List ℕ) → Decided (verb ≡ codes "field") → Decided (IsDeclaredName name) → Decided ((n : ℕ) × (n < 2 ^ 32) × (p ≡ decimal n)) → Decided ((c : List ℕ) × AreDigits c × (poly ≡ digits_text c)) → Decided (SpellsSome (verb ∷ name ∷ p ∷ poly ∷ []))
@@ -185,7 +182,7 @@ spells_operands verb name p poly (inl verb_is) (inl name_is) (inl p_is) (inl pol
 spells_none : (words : List (List ℕ)) → length words ≢ 4 → SpellsSome words → ⊥
 spells_none words other (Field name p poly, h) = other (ap length h.0)
 
-decide_command : (words : List (List ℕ)) → Decided (SpellsSome words)
+pub decide_command : (words : List (List ℕ)) → Decided (SpellsSome words)
 decide_command [] = inr (spells_none [] (λ e. omega (arith, e)))
 decide_command (a ∷ []) = inr (spells_none (a ∷ []) (λ e. omega (arith, e)))
 decide_command (a ∷ b ∷ []) = inr (spells_none (a ∷ b ∷ []) (λ e. omega (arith, e)))
@@ -198,56 +195,5 @@ decide_first : (first : Option ℕ) → Decided (IfSome first (λ b. b ≡ 35))
 decide_first None = inl tt
 decide_first (Some b) = cases_eq b 35
 
-decide_passed : (line : List ℕ) → Decided (IsPassedOver line)
+pub decide_passed : (line : List ℕ) → Decided (IsPassedOver line)
 decide_passed line = decide_first (find (λ b. not (b == 32)) line)
-
-abbrev SaysSome : State → List ℕ → Type 0
-SaysSome state line = (said : Result Row ℕ) × Says state line said
-
-module _ (state : State) (line : List ℕ) where
-  module _ (fits : length line ≤ MAX_LINE) where
-    says_begun : state.begun ≡ true → ¬ (IsPassedOver line) → Decided (SpellsSome (words_of line)) → SaysSome state line
-    says_begun begun other (inl c) = elim (cases_lt (length state.prologue) MAX_COMMANDS) [
-      | inl room ↦ (Ok (Run c.0), says_command state line fits begun c.0 c.1 room)
-      | inr full ↦ (Err 6, says_too_many state line fits begun c.0 c.1 full)
-    ]
-    says_begun begun other (inr none) = (Err 3, says_no_form state line fits begun other (λ c h. none (c, h)))
-
-    says_not_begun : state.begun ≡ false → ¬ (IsPassedOver line) → Decided (words_of line ≡ header_words) → SaysSome state line
-    says_not_begun not_yet other (inl header) = (Ok Header, says_header state line fits not_yet header)
-    says_not_begun not_yet other (inr no_header) = (Err 1, says_no_header state line fits not_yet other no_header)
-
-    says_fitting : Decided (IsPassedOver line) → SaysSome state line
-    says_fitting (inl passed) = (Ok Passed, says_passed state line fits passed)
-    says_fitting (inr other) = elim (cases_Bool state.begun) [
-      | inl begun ↦ says_begun begun other (decide_command (words_of line))
-      | inr not_yet ↦ says_not_begun not_yet other (same_words (words_of line) header_words)
-    ]
-
-  -- a line says a row or has a fault
-  says_some : SaysSome state line
-  says_some = elim (cases_lt MAX_LINE (length line)) [
-    | inl long ↦ (Err 2, says_too_long state line long)
-    | inr fits ↦ says_fitting fits (decide_passed line)
-  ]
-
--- lines have a reading
-abbrev MeansSome : State → ℕ → List (List ℕ) → Type 0
-MeansSome state n lines = (read : Result Script (ℕ × ℕ)) × Means state n lines read
-
-means_after : (state : State) (n : ℕ) (line : List ℕ) (lines : List (List ℕ)) (said : Result Row ℕ) → Says state line said → ((row : Row) → MeansSome (after state row) (n + 1) lines) → MeansSome state n (line ∷ lines)
-means_after state n line lines (Ok row) says rest = ((rest row).0, (Ok row, says, (rest row).1))
-means_after state n line lines (Err kind) says rest = (Err (n, kind), (Err kind, says, refl))
-
-means_some : (state : State) (n : ℕ) (lines : List (List ℕ)) → MeansSome state n lines
-means_some state n [] = (cond state.begun (Ok (script_of state)) (Err (1, 1)), refl)
-means_some state n (line ∷ lines) =
-    let said = says_some state line in
-    means_after state n line lines said.0 said.1 (λ row. means_some (after state row) (n + 1) lines)
-
--- a text spells a script or has a first fault
-pub reading_exists : (bytes : List ℕ) → ((script : Script) × Spells bytes script) ⊎ ((n : ℕ) × (kind : ℕ) × FirstBad bytes n kind)
-reading_exists bytes = by_reading (means_some opening 1 (lines_of bytes)) where
-  by_reading : MeansSome opening 1 (lines_of bytes) → ((script : Script) × Spells bytes script) ⊎ ((n : ℕ) × (kind : ℕ) × FirstBad bytes n kind)
-  by_reading (Ok script, h) = inl (script, h)
-  by_reading (Err (n, kind), h) = inr (n, kind, h)

@@ -2,8 +2,8 @@
 use Rattle.std.proofs.Common.{◌++◌, sym, ap, ◌∙◌}
 use Rattle.std.proofs.lemmas.List.{append-nil}
 use Rattle.std.specs.Prelude.{decimal}
-use Rattle.lat_script.proofs.PieceLemmas.{digits_text_none, digits_text_more, twice_more}
-use Rattle.lat_script.proofs.pieces.put_numbers.Goals as goal
+use Rattle.lat_script.proofs.AppendedTexts.{digits_text_none, digits_text_more, twice_more}
+use Rattle.lat_script.proofs.appending.put_numbers.Goals as goal
 
 pub loop-i-init : goal.loop-i-init
 loop-i-init c = sym (ap (λ t. c.args.out.now.items ++ t) digits_text_none ∙ append-nil c.args.out.now.items)

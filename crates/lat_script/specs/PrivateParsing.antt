@@ -5,11 +5,11 @@ use Rattle.lat_script.specs.declared.parsing.LineFault.TheVariants as fault
 use Rattle.lat_script.specs.declared.faults.ScriptFault.{ScriptFault}
 use Rattle.lat_script.specs.declared.faults.ScriptFault.TheVariants as read
 use Rattle.lat_script.specs.declared.commands.Script.{Script}
-use Rattle.lat_script.specs.Grammar.{State, Row, after, Says, Spells, FirstBad}
+use Rattle.lat_script.specs.Grammar.{State, Form, after, Says, Spells, FirstBad}
 
--- the line says a row, after which the state is new, or it has a fault of this kind
+-- the line says a form, after which the state is new, or it has a fault of this kind
 abbrev pub TakesLine : State → List ℕ → State → Result (Unit {0}) LineFault → Type 0
-TakesLine old line new (Ok u) = (row : Row) × Says old line (Ok row) × (new ≡ after old row)
+TakesLine old line new (Ok u) = (form : Form) × Says old line (Ok form) × (new ≡ after old form)
 TakesLine old line new (Err (fault.Bad kind)) = Says old line (Err kind)
 TakesLine old line new (Err fault.NoMemory) = Unit {0}
 

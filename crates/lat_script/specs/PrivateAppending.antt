@@ -2,8 +2,8 @@
 use Rattle.std.specs.Prelude.{◌≡◌, ℕ, zero, suc, List, [], ◌∷◌, ◌++◌, decimal}
 use Rattle.std.specs.List.{flat_map}
 use Rattle.lat_script.specs.Digits.{digits_text}
-use Rattle.lat_script.specs.declared.pieces.Piece.{Piece}
-use Rattle.lat_script.specs.declared.pieces.Piece.TheVariants.{Text, Number, Numbers}
+use Rattle.lat_script.specs.declared.appending.Piece.{Piece}
+use Rattle.lat_script.specs.declared.appending.Piece.TheVariants.{Text, Number, Numbers}
 
 -- what stands before the number at this place of a list
 abbrev pub separator : ℕ → List ℕ

@@ -5,7 +5,7 @@ use Rattle.std.specs.List.{join_with_byte}
 use Rattle.std.proofs.lemmas.List.{append-nil, take_at, map_more, length-map, length-take-le}
 use Rattle.lat_script.specs.Digits.{digits_text}
 use Rattle.lat_script.specs.Texts.{summary_text}
-use Rattle.lat_script.specs.Pieces.{Extends, separator}
+use Rattle.lat_script.specs.PrivateAppending.{Extends, separator}
 
 pub extends_same : (old new : List ℕ) → new ≡ old → Extends old new
 extends_same old new e = record { part = []; is = e ∙ sym (append-nil old) }
