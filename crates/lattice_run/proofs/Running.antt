@@ -9,7 +9,7 @@ use Rattle.std.proofs.lemmas.Slice.Eq.{bytes_eq-Decides}
 use Rattle.lat_io.specs.Source.{ReadWhole, TakesFirst}
 use Rattle.lat_script.specs.declared.commands.Script.{Script}
 use Rattle.lat_script.specs.declared.commands.TheConstants.{MAX_COMMANDS}
-use Rattle.lat_script.specs.Grammar.{State, Row, Passed, Header, Run, opening, script_of, after, Says, Means, Spells, FirstBad, lines_of}
+use Rattle.lat_script.specs.Grammar.{State, Form, PassedOver, Header, OfCommand, at_start, script_of, after, Says, Means, Spells, FirstBad, lines_of}
 use Rattle.lat_script.specs.Texts.{usage_text, bad_line_text, too_long_text}
 use Rattle.lat_script.specs.declared.faults.NoMemory.{NoMemory}
 use Rattle.lattice_run.specs.declared.run.TheConstants.{MAX_INPUT}
@@ -36,12 +36,12 @@ one_word f (x ∷ []) w t text b l h i e d =
     (λ k. ap (λ u. u ∷ []) (sym same ∙ dec.0 (sym d ∙ k)), λ k. d ∙ dec.1 (same ∙ head_same k))
 
 -- ---- a script has at most MAX_COMMANDS commands
-after_fits : (state : State) (line : List ℕ) (row : Row) → length state.prologue ≤ MAX_COMMANDS → Says state line (Ok row)
-    → length (after state row).prologue ≤ MAX_COMMANDS
+after_fits : (state : State) (line : List ℕ) (form : Form) → length state.prologue ≤ MAX_COMMANDS → Says state line (Ok form)
+    → length (after state form).prologue ≤ MAX_COMMANDS
 unfolding Says
-after_fits state line Passed fits says = fits
+after_fits state line PassedOver fits says = fits
 after_fits state line Header fits says = fits
-after_fits state line (Run c) fits says = elim (cases_lt (length state.prologue) MAX_COMMANDS) [
+after_fits state line (OfCommand c) fits says = elim (cases_lt (length state.prologue) MAX_COMMANDS) [
   | inl l ↦ omega (arith, length-append state.prologue (c ∷ []))
   | inr l ↦ absurd (says.1.1.1.1.0 (l, (c, says.0)))
 ]
@@ -58,12 +58,12 @@ means_fits : (state : State) (n : ℕ) (lines : List (List ℕ)) (script : Scrip
 means_fits state n [] script fits means =
     let same : script ≡ script_of state = the_script state.begun script (script_of state) (1, 1) means in
     let length_same : length script.prologue ≡ length state.prologue = ap (λ s. length s.prologue) same in omega arith
-means_fits state n (line ∷ lines) script fits (Ok row, says, more) =
-    means_fits (after state row) (n + 1) lines script (after_fits state line row fits says) more
+means_fits state n (line ∷ lines) script fits (Ok form, says, more) =
+    means_fits (after state form) (n + 1) lines script (after_fits state line form fits says) more
 means_fits state n (line ∷ lines) script fits (Err kind, says, more) = absurd (ok_not_err script (n, kind) more)
 
 pub script_fits : (input : List ℕ) (script : Script) → Spells input script → length script.prologue ≤ MAX_COMMANDS
-script_fits input script spells = means_fits opening 1 (lines_of input) script (omega arith) spells
+script_fits input script spells = means_fits at_start 1 (lines_of input) script (omega arith) spells
 
 -- ---- what is to be written
 pub answers_bad : (input : List ℕ) (line kind : ℕ) (r : Result Output NoMemory) → length input ≤ MAX_INPUT → FirstBad input line kind

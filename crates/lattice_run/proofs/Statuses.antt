@@ -6,7 +6,7 @@ use Rattle.lat_io.specs.Faults.{Rose}
 use Rattle.lat_io.specs.Source.{ReadWhole}
 use Rattle.lat_script.specs.declared.commands.Script.{Script}
 use Rattle.lat_script.specs.Grammar.{Spells}
-use Rattle.lat_script.proofs.GrammarLemmas.{never_both}
+use Rattle.lat_script.proofs.OneMeaning.{never_both}
 use Rattle.lattice_run.specs.declared.run.TheConstants.{MAX_INPUT}
 use Rattle.lattice_run.specs.Transcript.{IsTranscript}
 use Rattle.lattice_run.specs.Answers.{IsSolo, Answers, IsInput}
