@@ -1,6 +1,6 @@
 -- Facts on coefficient lists.
-use Rattle.std.proofs.Common.{◌≡◌, ℕ, ◌<◌, ◌≤◌, false, eqb, Option, Some, None, List, [], ◌∷◌, ◌++◌, length, map, sym, refl, ap, ◌∙◌, subst, inl, inr, arith, append_assoc}
-use Rattle.std.specs.Prelude.{◌≢◌, ◌⊎◌, All, decimal, SomeIff, MatchOption}
+use Rattle.std.proofs.Common.{◌≡◌, ℕ, ◌<◌, false, eqb, List, [], ◌∷◌, ◌++◌, length, map, sym, refl, ap, ◌∙◌, subst, inl, inr, arith, append_assoc}
+use Rattle.std.specs.Prelude.{◌≢◌, ◌⊎◌, All, decimal}
 use Rattle.std.specs.List.{slice_split, join_with_byte}
 use Rattle.std.specs.Str.Parse.{AllDigits}
 use Rattle.std.proofs.lemmas.Fmt.{decimal_is_IsNumeral, decimal_injective}
@@ -35,7 +35,7 @@ parts-join (n ∷ m ∷ c) some small =
 -- the parts of the text of a list are its numbers in decimal
 pub parts-digits_text : (c : List ℕ) → AreDigits c → parts (digits_text c) ≡ map decimal c
 unfolding digits_text
-parts-digits_text c h = parts-join c h.not_empty h.bytes
+parts-digits_text c h = parts-join c h.count.0 h.bytes
 
 pub digits_text_from_parts : (word c : List ℕ) → parts word ≡ map decimal c → word ≡ digits_text c
 unfolding digits_text
@@ -76,7 +76,7 @@ pub not_digits : (word xs part : List ℕ) (more : List (List ℕ)) → map deci
 not_digits word xs part more e bad c are is =
     let found = next_number xs c part more (e ∙ ap parts is ∙ parts-digits_text c are) are.bytes in
     elim bad [
-      | inl full ↦ omega (arith, found.0, are.not_too_many)
+      | inl full ↦ omega (arith, found.0, are.count.1)
       | inr none ↦ none found.1.0 found.1.1 found.1.2
     ]
 
@@ -87,16 +87,16 @@ push_parts xs part more all n e is =
     ∙ append_assoc (map decimal xs) (decimal n ∷ []) more
     ∙ ap (λ p. map decimal xs ++ (p ∷ more)) (sym is) ∙ e
 
-pub are_pushed : (xs : List ℕ) (n : ℕ) → All (λ n. n < 256) xs → n < 256 → length (xs ++ n ∷ []) ≤ MAX_DIGITS → AreDigits (xs ++ n ∷ [])
-are_pushed xs n small l room = record {
-  not_empty = omega (arith, length_push xs n);
-  not_too_many = room;
-  bytes = All-push (λ n. n < 256) xs n small l;
-}
-
--- what a test for a list answers, at a list
-pub digits_found : (word ys : List ℕ) (r : Option (List ℕ)) → SomeIff r (AreDigits ys) ys → AreDigits ys → map decimal ys ++ [] ≡ parts word → MatchOption r ((c : List ℕ) → AreDigits c → word ≢ digits_text c) (λ c. AreDigits c × (word ≡ digits_text c))
-digits_found word ys None test are e = absurd (test are)
-digits_found word ys (Some c) test are e =
-    let is : word ≡ digits_text ys = digits_text_from_parts word ys (sym e ∙ append-nil (map decimal ys)) in
-    (subst AreDigits (sym test.1) are, is ∙ ap digits_text (sym test.1))
+-- a list with one more number, where there is room for it, is a coefficient list, and the word is its text
+pub pushed_last : (word xs part all : List ℕ) (n : ℕ) → All (λ n. n < 256) xs → n < 256
+    → length xs < MAX_DIGITS → all ≡ xs ++ n ∷ [] → map decimal xs ++ (part ∷ []) ≡ parts word → part ≡ decimal n
+    → AreDigits all × (word ≡ digits_text all)
+pushed_last word xs part all n small l room e so_far is =
+    let more = push_parts xs part [] (parts word) n so_far is in
+    let texts : parts word ≡ map decimal (xs ++ n ∷ []) = sym more ∙ append-nil (map decimal (xs ++ n ∷ [])) in (
+      subst AreDigits (sym e) (record {
+        count = (omega (arith, length_push xs n), omega (arith, length_push xs n));
+        bytes = All-push (λ n. n < 256) xs n small l;
+      }),
+      digits_text_from_parts word (xs ++ n ∷ []) texts ∙ ap digits_text (sym e),
+    )

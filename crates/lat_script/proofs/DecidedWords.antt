@@ -134,15 +134,14 @@ decide_digits word = by_parts (decide_numbers (parts_of word)) where
       inl (
         c,
         record {
-          not_empty = omega (arith, ap length e, ap length first.2, length-map c decimal);
-          not_too_many = room;
+          count = (omega (arith, ap length e, ap length first.2, length-map c decimal), room);
           bytes = small;
         },
         digits_text_from_parts word c e,
       )
   sized c small e (inr long) = inr (λ h.
       let same = ap length (sym e ∙ ap parts_of h.2 ∙ parts-digits_text h.0 h.1) in
-      long (omega (arith, same, length-map c decimal, length-map h.0 decimal, h.1.not_too_many)))
+      long (omega (arith, same, length-map c decimal, length-map h.0 decimal, h.1.count.1)))
 
   by_parts : Decided (AreNumbers (parts_of word)) → Decided ((c : List ℕ) × AreDigits c × (word ≡ digits_text c))
   by_parts (inl c) = sized c.0 c.1 c.2 (decide_le (length c.0) MAX_DIGITS)

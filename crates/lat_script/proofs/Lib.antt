@@ -7,5 +7,6 @@ pub mod OneMeaning
 pub mod ParsedLines
 pub mod DecidedWords
 pub mod SomeMeaning
+pub mod LinesOfScripts
 pub mod PrintableBytes
 pub mod AppendedTexts

@@ -6,6 +6,7 @@ mod commands;
 mod cutting;
 mod digits;
 mod faults;
+mod laws;
 mod line_forms;
 mod names;
 mod numbers;
@@ -16,8 +17,9 @@ mod texts;
 pub use commands::{Command, CommandList, MAX_COMMANDS, MAX_LINE, MAX_SCRIPT, Script};
 pub use digits::{Digits, MAX_DIGITS};
 pub use faults::{NO_FORM, NO_HEADER, NoMemory, ScriptFault, TOO_LONG, TOO_MANY_COMMANDS};
+pub use laws::{limits, one_reading, printable_lines, spelled_texts};
 pub use names::{FieldName, MAX_NAME};
-pub use parsing::{limits, one_reading, parse, printable_lines};
+pub use parsing::parse;
 pub use replies::{Line, Outcome, Reply, StepRefusal};
 pub use texts::{add_bad_line, add_line, add_summary, add_too_long, add_usage};
 

@@ -6,8 +6,9 @@ ghost use Rattle.lat_script.specs.Grammar.{words_of, IsPassedOver, header_words,
 
 use crate::commands::Command;
 use crate::cutting::{first_word, three_words, two_words};
+use crate::digits::read_digits;
 use crate::names::declared_name;
-use crate::numbers::{digits, number};
+use crate::numbers::read_number;
 
 // The first byte of a line that isn't a space.
 fn first_not_space(line: &[u8]) -> Option<u8>
@@ -43,8 +44,8 @@ fn field_of(name: &[u8], p: &[u8], poly: &[u8]) -> Option<Command>
         (SpellsCommand (codes "field" ∷ name.now ∷ p.now ∷ poly.now ∷ [])) }
 {
     let name = declared_name(name)?;
-    let p = number(p, u64::from(u32::MAX))? as u32;
-    let poly = digits(poly)?;
+    let p = read_number(p, u64::from(u32::MAX))? as u32;
+    let poly = read_digits(poly)?;
     Some(Command::Field { name, p, poly })
 }
 

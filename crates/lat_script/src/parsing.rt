@@ -1,12 +1,8 @@
 //! The parser: one pass over the lines.
 
-ghost use Rattle.std.specs.Prelude.{◌≡◌, ◌⊎◌, ℕ, ◌≤◌, true, List, length, All, Ok, Err, IfOk};
-ghost use Rattle.std.specs.Int.{IsInRange};
-ghost use Rattle.lat_script.specs.declared.commands.Command.{Command};
+ghost use Rattle.std.specs.Prelude.{◌≡◌, ◌⊎◌, ℕ, ◌≤◌, true, length, Ok, Err, IfOk};
 ghost use Rattle.lat_script.specs.declared.commands.Script.{Script};
-ghost use Rattle.lat_script.specs.declared.names.TheConstants.{MAX_NAME};
-ghost use Rattle.lat_script.specs.declared.digits.TheConstants.{MAX_DIGITS};
-ghost use Rattle.lat_script.specs.Grammar.{at_start, words_of, IsPassedOver, header_words, SpellsCommand, Spells, FirstBad};
+ghost use Rattle.lat_script.specs.Grammar.{at_start, IsPassedOver, Spells, FirstBad};
 ghost use Rattle.lat_script.specs.declared.parsing.LineFault.TheVariants.{NoMemory as no_memory};
 ghost use Rattle.lat_script.specs.PrivateParsing.{at_line, TakesLine, Reads};
 
@@ -154,23 +150,3 @@ pub fn parse(alloc: Global, bytes: &[u8]) -> Result<Script, ScriptFault>
 {
     read(alloc, bytes)
 }
-
-/// Bytes have one reading: they spell one script, or have one first fault, and never both.
-pub fn one_reading()
-    ensures scripts { (bytes : List ℕ) (s t : Script) → Spells bytes s → Spells bytes t → s ≡ t }
-    ensures faults { (bytes : List ℕ) (m n k l : ℕ) → FirstBad bytes m k → FirstBad bytes n l → (m ≡ n) × (k ≡ l) }
-    ensures never_both { (bytes : List ℕ) (s : Script) (n k : ℕ) → Spells bytes s → FirstBad bytes n k → ⊥ }
-    ensures some { (bytes : List ℕ) → ((script : Script) × Spells bytes script)
-        ⊎ ((n : ℕ) × (kind : ℕ) × FirstBad bytes n kind) }
-{}
-
-/// A line that is the header or a command holds bytes from 32 to 126 only.
-pub fn printable_lines()
-    ensures header { (line : List ℕ) → words_of line ≡ header_words → All (IsInRange 32 126) line }
-    ensures command { (line : List ℕ) (c : Command) → SpellsCommand (words_of line) c → All (IsInRange 32 126) line }
-{}
-
-/// The limits of the language, as numbers.
-pub fn limits()
-    ensures { (MAX_SCRIPT ≡ 1048576) × (MAX_LINE ≡ 4096) × (MAX_COMMANDS ≡ 20000) × (MAX_NAME ≡ 32) × (MAX_DIGITS ≡ 64) }
-{}

@@ -1,7 +1,7 @@
 use Rattle.std.proofs.Common.{◌≡◌, ◌==◌, ◌<◌, ◌++◌, map, length}
 use Rattle.std.specs.Prelude.{All, decimal}
 use Rattle.std.specs.List.{slice_split}
-use Rattle.lat_script.proofs.numbers.digits.Given as goal
+use Rattle.lat_script.proofs.digits.read_digits.Given as goal
 
 -- the numbers so far, and then the parts of the rest, are the parts of the word
 abbrev pub invariant-loop-part : goal.invariant-loop-part

@@ -1,6 +1,6 @@
 use Rattle.std.proofs.Common.{◌≡◌, ◌≤◌, take}
 use Rattle.std.specs.Str.Parse.{AllDigits, digits_value}
-use Rattle.lat_script.proofs.numbers.number.Given as goal
+use Rattle.lat_script.proofs.numbers.read_number.Given as goal
 
 -- the bytes so far are digits, and value is the number that they stand for
 abbrev pub invariant-loop-digit : goal.invariant-loop-digit

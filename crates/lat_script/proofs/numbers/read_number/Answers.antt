@@ -4,8 +4,8 @@ use Rattle.std.specs.Prelude.{decimal}
 use Rattle.std.proofs.lemmas.Bool.{eqb-true}
 use Rattle.lat_script.proofs.LinesAndWords.{some_from_test}
 use Rattle.lat_script.proofs.Decimals.{number_not_empty, number_no_zero, number_digit, number_prefix, digit_more, value_more, number_whole}
-use Rattle.lat_script.proofs.numbers.number.Goals as goal
-use Rattle.lat_script.proofs.numbers.number.Goals.{then-is_empty-via-then-is_empty, then-is_empty-via-else-is_empty+then-has_leading_zero}
+use Rattle.lat_script.proofs.numbers.read_number.Goals as goal
+use Rattle.lat_script.proofs.numbers.read_number.Goals.{then-is_empty-via-then-is_empty, then-is_empty-via-else-is_empty+then-has_leading_zero}
 
 pub returns-then-is_empty : goal.returns-then-is_empty
 returns-then-is_empty c = λ n l is.

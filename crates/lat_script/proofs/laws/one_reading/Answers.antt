@@ -1,7 +1,7 @@
 -- A text has one reading.
 use Rattle.lat_script.proofs.SomeMeaning.{reading_exists}
 use Rattle.lat_script.proofs.OneMeaning.{script_unique, fault_unique, never_both}
-use Rattle.lat_script.proofs.parsing.one_reading.Goals as goal
+use Rattle.lat_script.proofs.laws.one_reading.Goals as goal
 
 pub returns-clause-scripts : goal.returns-clause-scripts
 returns-clause-scripts c = script_unique
