@@ -58,7 +58,8 @@ same_lists same [] [] = inl refl
 same_lists same [] (y ∷ ys) = inr (λ e. cc)
 same_lists same (x ∷ xs) [] = inr (λ e. cc)
 same_lists same (x ∷ xs) (y ∷ ys) = same_cons x y xs ys (same x y) (same_lists same xs ys) where
-  same_cons : {A : Type 0} → (x y : A) (xs ys : List A) → Decided (x ≡ y) → Decided (xs ≡ ys) → Decided (x ∷ xs ≡ y ∷ ys)
+  same_cons : {A : Type 0} → (x y : A) (xs ys : List A) → Decided (x ≡ y) → Decided (xs ≡ ys)
+      → Decided (x ∷ xs ≡ y ∷ ys)
   same_cons x y xs ys (inl e) (inl f) = inl (cc)
   same_cons x y xs ys (inl e) (inr f) = inr (λ h. f (cc))
   same_cons x y xs ys (inr e) f = inr (λ h. e (cc))
@@ -66,10 +67,12 @@ same_lists same (x ∷ xs) (y ∷ ys) = same_cons x y xs ys (same x y) (same_lis
 same_text : (v w : List ℕ) → Decided (v ≡ w)
 same_text = same_lists cases_eq
 
+-- two lists of words are equal or not
 pub same_words : (v w : List (List ℕ)) → Decided (v ≡ w)
 same_words = same_lists same_text
 
-decide_all : {A : Type 0} (P : A → Type 0) → ((x : A) → Decided (P x)) → (xs : List A) → Decided (All P xs)
+decide_all : {A : Type 0} (P : A → Type 0) → ((x : A) → Decided (P x)) → (xs : List A)
+    → Decided (All P xs)
 decide_all P test [] = inl (All-nil P)
 decide_all P test (x ∷ xs) = more (test x) (decide_all P test xs) where
   more : Decided (P x) → Decided (All P xs) → Decided (All P (x ∷ xs))
@@ -92,7 +95,8 @@ decide_name (b ∷ bs) = all_three (decide_letter b) (decide_all IsNameByte deci
 decide_number : (word : List ℕ) (bound : ℕ) → Decided ((n : ℕ) × (n < bound) × (word ≡ decimal n))
 decide_number word zero = inr (λ h. omega (arith, h.1))
 decide_number word (suc n) = at_last (same_text word (decimal n)) (decide_number word n) where
-  at_last : Decided (word ≡ decimal n) → Decided ((k : ℕ) × (k < n) × (word ≡ decimal k)) → Decided ((k : ℕ) × (k < suc n) × (word ≡ decimal k))
+  at_last : Decided (word ≡ decimal n) → Decided ((k : ℕ) × (k < n) × (word ≡ decimal k))
+      → Decided ((k : ℕ) × (k < suc n) × (word ≡ decimal k))
   at_last (inl e) below = inl (n, omega arith, e)
   at_last (inr other) (inl found) = inl (found.0, omega (arith, found.1), found.2)
   at_last (inr other) (inr none) = inr (λ h. elim (cases_lt h.0 n) [
@@ -107,7 +111,8 @@ AreNumbers parts = (c : List ℕ) × All (λ n. n < 256) c × (parts ≡ map dec
 decide_numbers : (parts : List (List ℕ)) → Decided (AreNumbers parts)
 decide_numbers [] = inl ([], All-nil (λ n. n < 256), refl)
 decide_numbers (part ∷ parts) = more (decide_number part 256) (decide_numbers parts) where
-  more : Decided ((n : ℕ) × (n < 256) × (part ≡ decimal n)) → Decided (AreNumbers parts) → Decided (AreNumbers (part ∷ parts))
+  more : Decided ((n : ℕ) × (n < 256) × (part ≡ decimal n)) → Decided (AreNumbers parts)
+      → Decided (AreNumbers (part ∷ parts))
   more (inl n) (inl c) = let e = n.2 in let f = c.2 in inl (n.0 ∷ c.0, All-cons (λ n. n < 256) n.0 c.0 n.1 c.1, cc)
   more (inl n) (inr none) = inr (λ h. no_rest h.0 h.1 h.2) where
     no_rest : (c : List ℕ) → All (λ n. n < 256) c → part ∷ parts ≡ map decimal c → ⊥
@@ -128,7 +133,9 @@ parts_of = slice_split (λ b. b == 44)
 
 decide_digits : (word : List ℕ) → Decided ((c : List ℕ) × AreDigits c × (word ≡ digits_text c))
 decide_digits word = by_parts (decide_numbers (parts_of word)) where
-  sized : (c : List ℕ) → All (λ n. n < 256) c → parts_of word ≡ map decimal c → Decided (length c ≤ MAX_DIGITS) → Decided ((c : List ℕ) × AreDigits c × (word ≡ digits_text c))
+  sized : (c : List ℕ) → All (λ n. n < 256) c → parts_of word ≡ map decimal c
+      → Decided (length c ≤ MAX_DIGITS)
+      → Decided ((c : List ℕ) × AreDigits c × (word ≡ digits_text c))
   sized c small e (inl room) =
       let first = split_cons (λ b. b == 44) word in
       inl (
@@ -143,7 +150,8 @@ decide_digits word = by_parts (decide_numbers (parts_of word)) where
       let same = ap length (sym e ∙ ap parts_of h.2 ∙ parts-digits_text h.0 h.1) in
       long (omega (arith, same, length-map c decimal, length-map h.0 decimal, h.1.count.1)))
 
-  by_parts : Decided (AreNumbers (parts_of word)) → Decided ((c : List ℕ) × AreDigits c × (word ≡ digits_text c))
+  by_parts : Decided (AreNumbers (parts_of word))
+      → Decided ((c : List ℕ) × AreDigits c × (word ≡ digits_text c))
   by_parts (inl c) = sized c.0 c.1 c.2 (decide_le (length c.0) MAX_DIGITS)
   by_parts (inr none) = inr (λ h. none (h.0, h.1.bytes, ap parts_of h.2 ∙ parts-digits_text h.0 h.1))
 
@@ -151,7 +159,10 @@ decide_digits word = by_parts (decide_numbers (parts_of word)) where
 abbrev pub SpellsSome : List (List ℕ) → Type 0
 SpellsSome words = (c : Command) × SpellsCommand words c
 
-spells_operands : (verb name p poly : List ℕ) → Decided (verb ≡ codes "field") → Decided (IsDeclaredName name) → Decided ((n : ℕ) × (n < 2 ^ 32) × (p ≡ decimal n)) → Decided ((c : List ℕ) × AreDigits c × (poly ≡ digits_text c)) → Decided (SpellsSome (verb ∷ name ∷ p ∷ poly ∷ []))
+spells_operands : (verb name p poly : List ℕ) → Decided (verb ≡ codes "field")
+    → Decided (IsDeclaredName name) → Decided ((n : ℕ) × (n < 2 ^ 32) × (p ≡ decimal n))
+    → Decided ((c : List ℕ) × AreDigits c × (poly ≡ digits_text c))
+    → Decided (SpellsSome (verb ∷ name ∷ p ∷ poly ∷ []))
 spells_operands verb name p poly (inr no_verb) name_is p_is poly_is = inr (λ h. refused h.0 h.1) where
   refused : (c : Command) → SpellsCommand (verb ∷ name ∷ p ∷ poly ∷ []) c → ⊥
   refused (Field name' p' poly') h = let words = h.0 in no_verb (cc)
@@ -181,6 +192,7 @@ spells_operands verb name p poly (inl verb_is) (inl name_is) (inl p_is) (inl pol
 spells_none : (words : List (List ℕ)) → length words ≢ 4 → SpellsSome words → ⊥
 spells_none words other (Field name p poly, h) = other (ap length h.0)
 
+-- words are those of some command, or of none
 pub decide_command : (words : List (List ℕ)) → Decided (SpellsSome words)
 decide_command [] = inr (spells_none [] (λ e. omega (arith, e)))
 decide_command (a ∷ []) = inr (spells_none (a ∷ []) (λ e. omega (arith, e)))
@@ -194,5 +206,6 @@ decide_first : (first : Option ℕ) → Decided (IfSome first (λ b. b ≡ 35))
 decide_first None = inl tt
 decide_first (Some b) = cases_eq b 35
 
+-- a line is passed over or not
 pub decide_passed : (line : List ℕ) → Decided (IsPassedOver line)
 decide_passed line = decide_first (find (λ b. not (b == 32)) line)

@@ -8,6 +8,7 @@ use Rattle.lat_script.specs.declared.commands.TheConstants.{MAX_LINE, MAX_COMMAN
 use Rattle.lat_script.specs.declared.commands.Command.{Command}
 use Rattle.lat_script.specs.declared.commands.Command.TheVariants.{Field}
 use Rattle.lat_script.specs.Digits.{digits_text}
+use Rattle.lat_script.specs.declared.faults.TheConstants.{TOO_LONG, NO_HEADER, NO_FORM, TOO_MANY_COMMANDS}
 use Rattle.lat_script.specs.Grammar.{words_of, IsPassedOver, header_words, command_words, SpellsCommand, State, Form, PassedOver, Header, OfCommand, HasForm, Says}
 use Rattle.lat_script.proofs.LinesAndWords.{split_cons, is_word, word_taken}
 use Rattle.lat_script.proofs.CoefficientLists.{digits_text_injective}
@@ -19,7 +20,8 @@ first_byte line = find (λ b. not (b == 32)) line
 abbrev words_in : List ℕ → List (List ℕ)
 words_in line = filter (λ word. nat_lt 0 (length word)) (slice_split (λ b. b == 32) line)
 
-first_byte_in : (line : List ℕ) (b : ℕ) (word : List ℕ) (words : List (List ℕ)) → words_in line ≡ (b ∷ word) ∷ words → first_byte line ≡ Some b
+first_byte_in : (line : List ℕ) (b : ℕ) (word : List ℕ) (words : List (List ℕ))
+    → words_in line ≡ (b ∷ word) ∷ words → first_byte line ≡ Some b
 first_byte_in [] b word words e = cc
 first_byte_in (x ∷ xs) b word words e =
     let rest = split_cons (λ b. b == 32) xs in
@@ -31,7 +33,8 @@ first_byte_in (x ∷ xs) b word words e =
           ap Some same
     ] e
 
-passed_word : (line : List ℕ) (b : ℕ) (word : List ℕ) (words : List (List ℕ)) → IsPassedOver line → words_of line ≡ (b ∷ word) ∷ words → b ≡ 35
+passed_word : (line : List ℕ) (b : ℕ) (word : List ℕ) (words : List (List ℕ)) → IsPassedOver line
+    → words_of line ≡ (b ∷ word) ∷ words → b ≡ 35
 unfolding words_of
 passed_word line b word words passed e = subst (λ o. IfSome o (λ b. b ≡ 35)) (first_byte_in line b word words e) passed
 
@@ -39,17 +42,22 @@ passed_word line b word words passed e = subst (λ o. IfSome o (λ b. b ≡ 35))
 pub passed_no_header : (line : List ℕ) → IsPassedOver line → words_of line ≡ header_words → ⊥
 passed_no_header line passed e = let h = passed_word line _ _ _ passed e in omega arith
 
-pub passed_no_command : (line : List ℕ) → IsPassedOver line → (c : Command) → SpellsCommand (words_of line) c → ⊥
+-- nor a command
+pub passed_no_command : (line : List ℕ) → IsPassedOver line → (c : Command)
+    → SpellsCommand (words_of line) c → ⊥
 passed_no_command line passed (Field name p poly) spelled = let h = passed_word line _ _ _ passed spelled.0 in omega arith
 
-pub header_no_command : (words : List (List ℕ)) → words ≡ header_words → (c : Command) → SpellsCommand words c → ⊥
+-- the words of the header are those of no command
+pub header_no_command : (words : List (List ℕ)) → words ≡ header_words → (c : Command)
+    → SpellsCommand words c → ⊥
 header_no_command words e (Field name p poly) spelled =
     let same : header_words ≡ command_words (Field name p poly) = sym e ∙ spelled.0 in
     let first : ◌≡◌ {A = ℕ} 108 102 = cc in
     omega arith
 
 -- words spell one command
-pub command_unique : (words : List (List ℕ)) (c d : Command) → SpellsCommand words c → SpellsCommand words d → c ≡ d
+pub command_unique : (words : List (List ℕ)) (c d : Command) → SpellsCommand words c
+    → SpellsCommand words d → c ≡ d
 command_unique words (Field name p poly) (Field name' p' poly') h h' =
     let same : command_words (Field name p poly) ≡ command_words (Field name' p' poly') = sym h.0 ∙ h'.0 in
     let names : name ≡ name' = cc in
@@ -60,7 +68,8 @@ command_unique words (Field name p poly) (Field name' p' poly') h h' =
     cc
 
 module _ (state : State) (line : List ℕ) where
-  pub says_too_long : MAX_LINE < length line → Says state line (Err 2)
+  -- a line that is too long says so
+  pub says_too_long : MAX_LINE < length line → Says state line (Err TOO_LONG)
   unfolding Says
   says_too_long long = inl (long, refl)
 
@@ -68,15 +77,20 @@ module _ (state : State) (line : List ℕ) where
     no_long : MAX_LINE < length line → ⊥
     no_long long = omega arith
 
-    pub says_no_header : state.begun ≡ false → ¬ (IsPassedOver line) → ¬ (words_of line ≡ header_words) → Says state line (Err 1)
+    -- a first line that is no header says so
+    pub says_no_header : state.begun ≡ false → ¬ (IsPassedOver line)
+        → ¬ (words_of line ≡ header_words) → Says state line (Err NO_HEADER)
     unfolding Says
     says_no_header begun other no_header = inr (no_long, inl ((begun, other, λ h. no_header h.0), refl))
 
+    -- a line that is passed over
     pub says_passed : IsPassedOver line → Says state line (Ok PassedOver)
     unfolding Says
     says_passed passed = (passed, (no_long, ((λ h. h.1 passed), ((λ h. h PassedOver passed), ((λ h. passed_no_command line passed h.1.0 h.1.1), tt)))))
 
-    pub says_header : state.begun ≡ false → words_of line ≡ header_words → Says state line (Ok Header)
+    -- the header
+    pub says_header : state.begun ≡ false → words_of line ≡ header_words
+        → Says state line (Ok Header)
     unfolding Says
     says_header begun header = ((header, begun), (no_long, ((λ h. h.2 (header, begun)), ((λ h. h Header (header, begun)), ((λ h. header_no_command (words_of line) header h.1.0 h.1.1), tt)))))
 
@@ -84,7 +98,9 @@ module _ (state : State) (line : List ℕ) where
       has_begun : state.begun ≡ false → ⊥
       has_begun not_yet = true≢false (sym begun ∙ not_yet)
 
-      pub says_no_form : ¬ (IsPassedOver line) → ((c : Command) → ¬ (SpellsCommand (words_of line) c)) → Says state line (Err 3)
+      -- a line after the header that is no command
+      pub says_no_form : ¬ (IsPassedOver line)
+          → ((c : Command) → ¬ (SpellsCommand (words_of line) c)) → Says state line (Err NO_FORM)
       unfolding Says
       says_no_form other none = inr (no_long, inr ((λ h. has_begun h.0), inl ((λ form. not_of_form form), refl))) where
         not_of_form : (form : Form) → ¬ (HasForm state line form)
@@ -92,10 +108,14 @@ module _ (state : State) (line : List ℕ) where
         not_of_form Header h = has_begun h.1
         not_of_form (OfCommand c) h = none c h
 
-      pub says_too_many : (c : Command) → SpellsCommand (words_of line) c → MAX_COMMANDS ≤ length state.prologue → Says state line (Err 6)
+      -- a command too many
+      pub says_too_many : (c : Command) → SpellsCommand (words_of line) c
+          → MAX_COMMANDS ≤ length state.prologue → Says state line (Err TOO_MANY_COMMANDS)
       unfolding Says
       says_too_many c spelled full = inr (no_long, inr ((λ h. has_begun h.0), inr ((λ h. h (OfCommand c) spelled), inl ((full, (c, spelled)), refl))))
 
-      pub says_command : (c : Command) → SpellsCommand (words_of line) c → length state.prologue < MAX_COMMANDS → Says state line (Ok (OfCommand c))
+      -- a command
+      pub says_command : (c : Command) → SpellsCommand (words_of line) c
+          → length state.prologue < MAX_COMMANDS → Says state line (Ok (OfCommand c))
       unfolding Says
       says_command c spelled room = (spelled, (no_long, ((λ h. has_begun h.0), ((λ h. h (OfCommand c) spelled), ((λ h. omega (arith, h.0, room)), tt)))))

@@ -9,7 +9,8 @@ use Rattle.lat_script.specs.Grammar.{lines_of_parts, lines_of, words_of}
 use Rattle.lat_script.specs.PrivateCuts.{IsFirstPart, IsCutAt}
 
 -- a text has a first part
-pub split_cons : (p : ℕ → Bool) (text : List ℕ) → (first : List ℕ) × (more : List (List ℕ)) × (slice_split p text ≡ first ∷ more)
+pub split_cons : (p : ℕ → Bool) (text : List ℕ)
+    → (first : List ℕ) × (more : List (List ℕ)) × (slice_split p text ≡ first ∷ more)
 split_cons p [] = ([], [], refl)
 split_cons p (x ∷ xs) =
     let rest = split_cons p xs in
@@ -19,18 +20,22 @@ split_cons p (x ∷ xs) =
     ]
 
 -- the first line
-lines_cons : (line : List ℕ) (parts : List (List ℕ)) → 0 < length parts → lines_of_parts (line ∷ parts) ≡ line ∷ lines_of_parts parts
+lines_cons : (line : List ℕ) (parts : List (List ℕ)) → 0 < length parts
+    → lines_of_parts (line ∷ parts) ≡ line ∷ lines_of_parts parts
 lines_cons line [] h = absurd (omega arith)
 lines_cons line (next ∷ more) h = refl
 
 line_last : (line : List ℕ) → 0 < length line → lines_of_parts (line ∷ []) ≡ line ∷ []
 line_last line h = cond-false (eqb (length line) 0) [] (line ∷ []) (ne_eqb (length line) 0 (λ e. omega arith))
 
+-- no bytes have no line
 pub lines_none : lines_of [] ≡ []
 unfolding lines_of
 lines_none = refl
 
-pub first_line_taken : (text line rest : List ℕ) → 0 < length text → IsCutAt 10 text line rest → IsFirstPart lines_of text line rest
+-- a cut at the first line feed gives the first line
+pub first_line_taken : (text line rest : List ℕ) → 0 < length text → IsCutAt 10 text line rest
+    → IsFirstPart lines_of text line rest
 unfolding lines_of
 first_line_taken text line rest some (inl cut) =
     let next = split_cons (λ b. b == 10) rest in
@@ -42,19 +47,24 @@ first_line_taken text line rest some (inr cut) =
 abbrev pub is_word : List ℕ → Bool
 is_word word = nat_lt 0 (length word)
 
-pub word_taken : (word : List ℕ) (parts : List (List ℕ)) → 0 < length word → filter is_word (word ∷ parts) ≡ word ∷ filter is_word parts
+-- a part that isn't empty is a word
+pub word_taken : (word : List ℕ) (parts : List (List ℕ)) → 0 < length word
+    → filter is_word (word ∷ parts) ≡ word ∷ filter is_word parts
 word_taken word parts h = cond-true (ltb 0 (length word)) (word ∷ filter is_word parts) (filter is_word parts) (lt-ltb 0 (length word) h)
 
+-- no bytes have no word
 pub words_none : words_of [] ≡ []
 unfolding words_of
 words_none = refl
 
+-- a space before a text adds no word
 pub words_space : (rest : List ℕ) → words_of (32 ∷ rest) ≡ words_of rest
 unfolding words_of
 words_space rest = refl
 
 -- a text that doesn't begin with a space begins with its first word
-first_part_not_empty : (text first : List ℕ) (more : List (List ℕ)) → 0 < length text → get_or text 0 0 ≢ 32 → slice_split (λ b. b == 32) text ≡ first ∷ more → 0 < length first
+first_part_not_empty : (text first : List ℕ) (more : List (List ℕ)) → 0 < length text
+    → get_or text 0 0 ≢ 32 → slice_split (λ b. b == 32) text ≡ first ∷ more → 0 < length first
 first_part_not_empty [] first more some other cut = absurd (omega arith)
 first_part_not_empty (x ∷ xs) first more some other cut =
     let rest = split_cons (λ b. b == 32) xs in
@@ -63,7 +73,9 @@ first_part_not_empty (x ∷ xs) first more some other cut =
     let e : x ∷ rest.0 ≡ first = cc in
     subst (λ f. 0 < length f) e (omega arith)
 
-pub first_word_taken : (text word rest : List ℕ) → 0 < length text → get_or text 0 0 ≢ 32 → IsCutAt 32 text word rest → IsFirstPart words_of text word rest
+-- a cut at the first space of a text that begins with none gives the first word
+pub first_word_taken : (text word rest : List ℕ) → 0 < length text → get_or text 0 0 ≢ 32
+    → IsCutAt 32 text word rest → IsFirstPart words_of text word rest
 unfolding words_of
 first_word_taken text word rest some other (inl cut) =
     let whole = first_part_not_empty text word _ some other cut.0 in
@@ -72,7 +84,8 @@ first_word_taken text word rest some other (inr cut) =
     (ap (filter is_word) cut.0 ∙ word_taken word [] (rw cut.1 some) ∙ ap (λ r. word ∷ words_of r) (sym cut.2), rw cut.2 some)
 
 -- a cut at the first place where the test passes
-not_cut : (p : ℕ → Bool) (text : List ℕ) → length text ≤ position_or_len p text → slice_split p text ≡ text ∷ []
+not_cut : (p : ℕ → Bool) (text : List ℕ) → length text ≤ position_or_len p text
+    → slice_split p text ≡ text ∷ []
 not_cut p [] h = refl
 not_cut p (x ∷ xs) h =
     elim (p x) as (λ t. suc (length xs) ≤ cond (not t) (1 + position_or_len p xs) 0 → cond t ([] ∷ slice_split p xs) (onto_first x (slice_split p xs)) ≡ (x ∷ xs) ∷ []) [
@@ -80,13 +93,18 @@ not_cut p (x ∷ xs) h =
       | false ↦ λ l. ap (onto_first x) (not_cut p xs (omega arith))
     ] h
 
-pub cut_none : (p : ℕ → Bool) (text : List ℕ) → position p text ≡ None → slice_split p text ≡ text ∷ []
+-- a text with no such byte is one part
+pub cut_none : (p : ℕ → Bool) (text : List ℕ) → position p text ≡ None
+    → slice_split p text ≡ text ∷ []
 cut_none p text none = elim (cases_lt (position_or_len p text) (length text)) [
   | inl l ↦ absurd (let e : position p text ≡ Some (position_or_len p text) = sym (cond_below _ _ _ _ l) in cc)
   | inr l ↦ not_cut p text l
 ]
 
-pub cut_some : (p : ℕ → Bool) (text : List ℕ) (i : ℕ) → position p text ≡ Some i → IsFirstPart (slice_split p) text (take i text) (take (length text - (i + 1)) (drop (i + 1) text))
+-- a text is cut at its first such byte
+pub cut_some : (p : ℕ → Bool) (text : List ℕ) (i : ℕ) → position p text ≡ Some i
+    → IsFirstPart (slice_split p) text (take i text)
+    (take (length text - (i + 1)) (drop (i + 1) text))
 cut_some p text i some = elim (cases_lt (position_or_len p text) (length text)) [
   | inl l ↦
       let e : position p text ≡ Some (position_or_len p text) = sym (cond_below _ _ _ _ l) in
@@ -99,7 +117,8 @@ cut_some p text i some = elim (cases_lt (position_or_len p text) (length text)) 
 ]
 
 -- one more space before what is left
-pub words_space_at : (text : List ℕ) (i : ℕ) → i < length text → get_or text i 0 ≡ 32 → words_of (drop (i + 1) text) ≡ words_of (drop i text)
+pub words_space_at : (text : List ℕ) (i : ℕ) → i < length text → get_or text i 0 ≡ 32
+    → words_of (drop (i + 1) text) ≡ words_of (drop i text)
 words_space_at text i l space =
     sym (ap words_of (drop_more text i 0 l ∙ ap (λ b. b ∷ drop (i + 1) text) space) ∙ words_space (drop (i + 1) text))
 
@@ -107,5 +126,6 @@ words_space_at text i l space =
 pub empty_from_test : (xs : List ℕ) (b : Bool) → b ≡ (length xs == 0) → b ≡ true → xs ≡ []
 empty_from_test xs b e t = nil_from_length xs (eqb-true (length xs) 0 (sym e ∙ t))
 
+-- what a test for some byte says
 pub some_from_test : (xs : List ℕ) (b : Bool) → b ≡ (length xs == 0) → b ≡ false → 0 < length xs
 some_from_test xs b e f = let none = eqb-false (length xs) 0 (sym e ∙ f) in omega arith

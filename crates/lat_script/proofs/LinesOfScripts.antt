@@ -40,11 +40,13 @@ taken_lines line = (
 abbrev taken_words : List (List ℕ) → List (List (List ℕ))
 taken_words lines = map words_of (filter is_taken lines)
 
-words_passed : (line : List ℕ) (lines : List (List ℕ)) → IsPassedOver line → taken_words (line ∷ lines) ≡ taken_words lines
+words_passed : (line : List ℕ) (lines : List (List ℕ)) → IsPassedOver line
+    → taken_words (line ∷ lines) ≡ taken_words lines
 words_passed line lines h =
     ap (map words_of) (cond-false (is_taken line) (line ∷ filter is_taken lines) (filter is_taken lines) (passed_not_taken line h))
 
-words_taken : (line : List ℕ) (lines : List (List ℕ)) → (IsPassedOver line → ⊥) → taken_words (line ∷ lines) ≡ words_of line ∷ taken_words lines
+words_taken : (line : List ℕ) (lines : List (List ℕ)) → (IsPassedOver line → ⊥)
+    → taken_words (line ∷ lines) ≡ words_of line ∷ taken_words lines
 words_taken line lines h =
     ap (map words_of) (cond-true (is_taken line) (line ∷ filter is_taken lines) (filter is_taken lines) (other_taken line h))
 
@@ -52,10 +54,12 @@ words_taken line lines h =
 abbrev to_come : Bool → List Command → List (List (List ℕ))
 to_come begun commands = cond begun (map command_words commands) (header_words ∷ map command_words commands)
 
-come_begun : (begun : Bool) (commands : List Command) → begun ≡ true → to_come begun commands ≡ map command_words commands
+come_begun : (begun : Bool) (commands : List Command) → begun ≡ true
+    → to_come begun commands ≡ map command_words commands
 come_begun begun commands e = ap (λ b. to_come b commands) e
 
-come_not_begun : (begun : Bool) (commands : List Command) → begun ≡ false → to_come begun commands ≡ header_words ∷ map command_words commands
+come_not_begun : (begun : Bool) (commands : List Command) → begun ≡ false
+    → to_come begun commands ≡ header_words ∷ map command_words commands
 come_not_begun begun commands e = ap (λ b. to_come b commands) e
 
 -- what lines are that end in the script, after what the state holds
@@ -67,7 +71,8 @@ record Ends (state : State) (lines : List (List ℕ)) (script : Script) : Type 0
   pub words : taken_words lines ≡ to_come state.begun commands
   pub few : length script.prologue ≤ MAX_COMMANDS
 
-no_lines : (state : State) (script : Script) → length state.prologue ≤ MAX_COMMANDS → Means state 1 [] (Ok script) → Ends state [] script
+no_lines : (state : State) (script : Script) → length state.prologue ≤ MAX_COMMANDS
+    → Means state 1 [] (Ok script) → Ends state [] script
 no_lines state script room h = elim (cases_Bool state.begun) [
   | inl begun ↦
       let whole : ◌≡◌ {A = Result Script (ℕ × ℕ)} (Ok script) (Ok (script_of state)) = h ∙ cond-true state.begun (Ok (script_of state)) (Err (1, NO_HEADER)) begun in
@@ -87,7 +92,9 @@ no_lines state script room h = elim (cases_Bool state.begun) [
 ]
 
 -- a line more
-ends_more : (state : State) (line : List ℕ) (lines : List (List ℕ)) (script : Script) (form : Form) → Says state line (Ok form) → Ends (after state form) lines script → Ends state (line ∷ lines) script
+ends_more : (state : State) (line : List ℕ) (lines : List (List ℕ)) (script : Script) (form : Form)
+    → Says state line (Ok form) → Ends (after state form) lines script
+    → Ends state (line ∷ lines) script
 unfolding Says
 ends_more state line lines script PassedOver says rest = record {
   commands = rest.commands;
@@ -128,7 +135,8 @@ ends_more state line lines script (OfCommand c) says rest =
     }
 
 -- there is room for a command that is taken
-room_more : (state : State) (line : List ℕ) (form : Form) → length state.prologue ≤ MAX_COMMANDS → Says state line (Ok form) → length (after state form).prologue ≤ MAX_COMMANDS
+room_more : (state : State) (line : List ℕ) (form : Form) → length state.prologue ≤ MAX_COMMANDS
+    → Says state line (Ok form) → length (after state form).prologue ≤ MAX_COMMANDS
 unfolding Says
 room_more state line PassedOver room says = room
 room_more state line Header room says = room
@@ -137,14 +145,17 @@ room_more state line (OfCommand c) room says = elim (cases_lt (length state.prol
   | inr full ↦ absurd (says.1.1.1.1.0 (full, (c, says.0)))
 ]
 
-ends : (state : State) (n : ℕ) (lines : List (List ℕ)) (script : Script) → length state.prologue ≤ MAX_COMMANDS → Means state n lines (Ok script) → Ends state lines script
+ends : (state : State) (n : ℕ) (lines : List (List ℕ)) (script : Script)
+    → length state.prologue ≤ MAX_COMMANDS → Means state n lines (Ok script)
+    → Ends state lines script
 ends state n [] script room h = no_lines state script room h
 ends state n (line ∷ lines) script room (Ok form, says, more) =
     ends_more state line lines script form says (ends (after state form) (n + 1) lines script (room_more state line form room says) more)
 ends state n (line ∷ lines) script room (Err kind, says, more) = let other : ◌≡◌ {A = Result Script (ℕ × ℕ)} (Ok script) (Err (n, kind)) = more in absurd (cc)
 
 -- the lines of a text that spells a script
-pub spelled_is_text : (bytes : List ℕ) (script : Script) → Spells bytes script → IsTextOf bytes script
+pub spelled_is_text : (bytes : List ℕ) (script : Script) → Spells bytes script
+    → IsTextOf bytes script
 spelled_is_text bytes script h =
     let all = ends at_start 1 (lines_of bytes) script (omega arith) h in
     record {
@@ -157,7 +168,8 @@ spelled_is_text bytes script h =
 -- and back: from any state that the lines left fit, they go on to the script
 abbrev GoOn : List (List ℕ) → ℕ → Script → Type 0
 GoOn lines n script = (state : State) (commands : List Command) → taken_words lines ≡ to_come state.begun commands
-    → All IsCommand commands → script.prologue ≡ state.prologue ++ commands → Means state n lines (Ok script)
+    → All IsCommand commands → script.prologue ≡ state.prologue ++ commands
+    → Means state n lines (Ok script)
 
 -- with no line left there is no command left
 no_commands : (commands : List Command) → [] ≡ map command_words commands → commands ≡ []
@@ -175,21 +187,26 @@ go_on_none n script state commands words operands is = elim (cases_Bool state.be
 ]
 
 -- with one more line, which is the header or a command
-module _ (n : ℕ) (line : List ℕ) (lines : List (List ℕ)) (script : Script) (fits : length line ≤ MAX_LINE) (few : length script.prologue ≤ MAX_COMMANDS) (more : GoOn lines (n + 1) script) (state : State) where
-  go_on_command : (commands : List Command) → state.begun ≡ true → words_of line ∷ taken_words lines ≡ map command_words commands → All IsCommand commands → script.prologue ≡ state.prologue ++ commands → Means state n (line ∷ lines) (Ok script)
+module _ (n : ℕ) (line : List ℕ) (lines : List (List ℕ)) (script : Script)
+    (fits : length line ≤ MAX_LINE) (few : length script.prologue ≤ MAX_COMMANDS)
+    (more : GoOn lines (n + 1) script) (state : State) where
+  go_on_command : (commands : List Command) → state.begun ≡ true
+      → words_of line ∷ taken_words lines ≡ map command_words commands → All IsCommand commands
+      → script.prologue ≡ state.prologue ++ commands → Means state n (line ∷ lines) (Ok script)
   go_on_command [] begun words operands is = absurd (cc)
   go_on_command (c ∷ rest) begun words operands is =
       let first : words_of line ≡ command_words c = cc in
       let others : taken_words lines ≡ map command_words rest = cc in
-      let room : length state.prologue < MAX_COMMANDS = omega (arith, few, ap length is, length-append state.prologue (c ∷ rest)) in
-      (
+      let room : length state.prologue < MAX_COMMANDS = omega (arith, few, ap length is, length-append state.prologue (c ∷ rest)) in (
         Ok (OfCommand c),
         says_command state line fits begun c (first, All-head IsCommand c rest operands) room,
         more (after state (OfCommand c)) rest (others ∙ sym (come_begun state.begun rest begun)) (All-tail IsCommand c rest operands)
             (is ∙ sym (append_assoc state.prologue (c ∷ []) rest)),
       )
 
-  go_on_taken : (commands : List Command) → words_of line ∷ taken_words lines ≡ to_come state.begun commands → All IsCommand commands → script.prologue ≡ state.prologue ++ commands → Means state n (line ∷ lines) (Ok script)
+  go_on_taken : (commands : List Command)
+      → words_of line ∷ taken_words lines ≡ to_come state.begun commands → All IsCommand commands
+      → script.prologue ≡ state.prologue ++ commands → Means state n (line ∷ lines) (Ok script)
   go_on_taken commands words operands is = elim (cases_Bool state.begun) [
     | inl begun ↦ go_on_command commands begun (words ∙ come_begun state.begun commands begun) operands is
     | inr not_yet ↦
@@ -199,12 +216,16 @@ module _ (n : ℕ) (line : List ℕ) (lines : List (List ℕ)) (script : Script)
         (Ok Header, says_header state line fits not_yet header, more (after state Header) commands rest operands is)
   ]
 
-  go_on_line : Decided (IsPassedOver line) → (commands : List Command) → taken_words (line ∷ lines) ≡ to_come state.begun commands → All IsCommand commands → script.prologue ≡ state.prologue ++ commands → Means state n (line ∷ lines) (Ok script)
+  go_on_line : Decided (IsPassedOver line) → (commands : List Command)
+      → taken_words (line ∷ lines) ≡ to_come state.begun commands → All IsCommand commands
+      → script.prologue ≡ state.prologue ++ commands → Means state n (line ∷ lines) (Ok script)
   go_on_line (inl passed) commands words operands is =
       (Ok PassedOver, says_passed state line fits passed, more state commands (sym (words_passed line lines passed) ∙ words) operands is)
   go_on_line (inr other) commands words operands is = go_on_taken commands (sym (words_taken line lines other) ∙ words) operands is
 
-go_on : (lines : List (List ℕ)) (n : ℕ) (script : Script) → All (λ line. length line ≤ MAX_LINE) lines → length script.prologue ≤ MAX_COMMANDS → GoOn lines n script
+go_on : (lines : List (List ℕ)) (n : ℕ) (script : Script)
+    → All (λ line. length line ≤ MAX_LINE) lines → length script.prologue ≤ MAX_COMMANDS
+    → GoOn lines n script
 go_on [] n script short few = go_on_none n script
 go_on (line ∷ lines) n script short few =
     let fits = All-head (λ line. length line ≤ MAX_LINE) line lines short in
@@ -212,5 +233,6 @@ go_on (line ∷ lines) n script short few =
     λ state. go_on_line n line lines script fits few more state (decide_passed line)
 
 -- a text whose lines are a script's spells it
-pub text_is_spelled : (bytes : List ℕ) (script : Script) → IsTextOf bytes script → Spells bytes script
+pub text_is_spelled : (bytes : List ℕ) (script : Script) → IsTextOf bytes script
+    → Spells bytes script
 text_is_spelled bytes script text = go_on (lines_of bytes) 1 script text.short text.few at_start script.prologue text.lines text.operands refl

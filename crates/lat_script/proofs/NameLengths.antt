@@ -8,6 +8,7 @@ declared_fits : (text : List ℕ) → IsDeclaredName text → length text ≤ MA
 declared_fits [] h = absurd h
 declared_fits (b ∷ bs) h = omega (arith, h.2)
 
+-- a name has at most MAX_NAME bytes
 pub name_fits : (text : List ℕ) → IsFieldName text → length text ≤ MAX_NAME
 name_fits text (inl h) = declared_fits text h
 name_fits text (inr h) = omega (arith, ap length h.2, length-decimal-le 3 h.0 (omega arith) (omega (arith, h.1)) (omega (arith, h.1)))

@@ -24,7 +24,8 @@ abbrev ArePrintable : List ℕ → Type 0
 ArePrintable = AllByRecursion IsPrintable
 
 -- the bytes of a text are spaces or those of its words
-from_parts : (line : List ℕ) → AllByRecursion ArePrintable (slice_split (λ b. b == 32) line) → ArePrintable line
+from_parts : (line : List ℕ) → AllByRecursion ArePrintable (slice_split (λ b. b == 32) line)
+    → ArePrintable line
 from_parts [] h = tt
 from_parts (x ∷ xs) h =
     let rest = split_cons (λ b. b == 32) xs in
@@ -38,14 +39,16 @@ from_parts (x ∷ xs) h =
           (parts.0.0, from_parts xs (subst (AllByRecursion ArePrintable) (sym rest.2) (parts.0.1, parts.1)))
     ]
 
-from_words : (parts : List (List ℕ)) → AllByRecursion ArePrintable (filter is_word parts) → AllByRecursion ArePrintable parts
+from_words : (parts : List (List ℕ)) → AllByRecursion ArePrintable (filter is_word parts)
+    → AllByRecursion ArePrintable parts
 from_words [] h = tt
 from_words ([] ∷ parts) h = (tt, from_words parts h)
 from_words ((b ∷ bs) ∷ parts) h =
     let taken = subst (AllByRecursion ArePrintable) (word_taken (b ∷ bs) parts (omega arith)) h in
     (taken.0, from_words parts taken.1)
 
-printable_line : (line : List ℕ) (words : List (List ℕ)) → words_of line ≡ words → AllByRecursion ArePrintable words → All IsPrintable line
+printable_line : (line : List ℕ) (words : List (List ℕ)) → words_of line ≡ words
+    → AllByRecursion ArePrintable words → All IsPrintable line
 unfolding words_of
 printable_line line words e h =
     All-from_recursion IsPrintable line (from_parts line (from_words (slice_split (λ b. b == 32) line) (subst (AllByRecursion ArePrintable) (sym e) h)))
@@ -103,8 +106,11 @@ by_command : (c : Command) → IsCommand c → AllByRecursion ArePrintable (comm
 by_command (Field name p poly) h =
     (by_test (codes "field") refl, (by_name name h.0, (by_decimal p h.1, (by_digits_text poly h.2, tt))))
 
+-- the header has printable bytes
 pub printable_header : (line : List ℕ) → words_of line ≡ header_words → All (IsInRange 32 126) line
 printable_header line e = printable_line line header_words e (by_test (codes "lattice") refl, (by_test (codes "1") refl, tt))
 
-pub printable_command : (line : List ℕ) (c : Command) → SpellsCommand (words_of line) c → All (IsInRange 32 126) line
+-- a command has printable bytes
+pub printable_command : (line : List ℕ) (c : Command) → SpellsCommand (words_of line) c
+    → All (IsInRange 32 126) line
 printable_command line c spelled = printable_line line (command_words c) spelled.0 (by_command c spelled.1)

@@ -1,12 +1,12 @@
--- The script language: from the bytes of a text to the script that it spells, or to its first fault.
+-- The script language: from the bytes of a text to the script that it spells, or its first fault.
 --     lines_of bytes               the lines of a text, each without its line feed
 --     words_of line                the words of a line, between its spaces
 --     IsPassedOver line            the line has only spaces, or is a comment
 --     command_words c              the words of a command
---     IsCommand c                  its operands are names, numbers and lists as the grammar has them
+--     IsCommand c                  its operands are names, numbers and lists of the grammar
 --     SpellsCommand words c        the words are those of the command
 --     HasForm state line form      the line has this form
---     faults state line            the conditions of faults of a line, in the order in which they are looked at
+--     faults state line            the conditions of faults of a line, in their order
 --     Says state line said         what a line says: its form, or the kind of its fault
 --     Means state n lines read     what lines say, from line n on, after what the state holds
 --     Spells bytes script          the bytes spell the script
@@ -84,13 +84,23 @@ HasForm state line PassedOver = IsPassedOver line
 HasForm state line Header = (words_of line ≡ header_words) × (state.begun ≡ false)
 HasForm state line (OfCommand c) = SpellsCommand (words_of line) c
 
+-- no header stands before the line, and it is neither passed over nor the header
+abbrev pub LacksHeader : State → List ℕ → Type 0
+LacksHeader state line =
+    (state.begun ≡ false) × ¬ (HasForm state line PassedOver) × ¬ (HasForm state line Header)
+
+-- a command before which as many stand as there may be
+abbrev pub IsOneTooMany : State → List ℕ → Type 0
+IsOneTooMany state line =
+    (MAX_COMMANDS ≤ length state.prologue) × ((c : Command) × HasForm state line (OfCommand c))
+
 -- each kind of fault with its condition, in the order in which they are looked at
 abbrev pub faults : State → List ℕ → List (ℕ × Type 0)
 faults state line =
     (TOO_LONG, MAX_LINE < length line)
-    ∷ (NO_HEADER, (state.begun ≡ false) × ¬ (HasForm state line PassedOver) × ¬ (HasForm state line Header))
+    ∷ (NO_HEADER, LacksHeader state line)
     ∷ (NO_FORM, (form : Form) → ¬ (HasForm state line form))
-    ∷ (TOO_MANY_COMMANDS, (MAX_COMMANDS ≤ length state.prologue) × ((c : Command) × HasForm state line (OfCommand c)))
+    ∷ (TOO_MANY_COMMANDS, IsOneTooMany state line)
     ∷ []
 
 -- the first condition that holds is that of this kind
@@ -108,11 +118,13 @@ unfoldable pub Says : State → List ℕ → Result Form ℕ → Type 0
 Says state line (Ok form) = HasForm state line form × NoneHolds (faults state line)
 Says state line (Err kind) = IsFirst (faults state line) kind
 
--- Line by line, up to the first fault. Where every line is passed over, or there is none, line 1 lacks the header.
+-- Line by line, up to the first fault. Where every line is passed over, or there is none, line 1
+-- lacks the header.
 abbrev pub Means : State → ℕ → List (List ℕ) → Result Script (ℕ × ℕ) → Type 0
 Means state n [] read = read ≡ (if state.begun then Ok (script_of state) else Err (1, NO_HEADER))
 Means state n (line ∷ lines) read = (said : Result Form ℕ) × Says state line said
-    × MatchResult said (λ form. Means (after state form) (n + 1) lines read) (λ kind. read ≡ Err (n, kind))
+    × MatchResult said (λ form. Means (after state form) (n + 1) lines read)
+    (λ kind. read ≡ Err (n, kind))
 
 abbrev pub Spells : List ℕ → Script → Type 0
 Spells bytes script = Means at_start 1 (lines_of bytes) (Ok script)

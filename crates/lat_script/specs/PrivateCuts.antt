@@ -2,9 +2,10 @@
 use Rattle.std.specs.Prelude.{◌≡◌, ◌⊎◌, ℕ, ◌<◌, ◌==◌, List, [], ◌∷◌, length}
 use Rattle.std.specs.List.{slice_split}
 
--- the first of the parts of a text is this one, and the others are those of the rest, which is shorter
+-- the first part of a text is this one, and the others are those of the rest, which is shorter
 abbrev pub IsFirstPart : (List ℕ → List (List ℕ)) → List ℕ → List ℕ → List ℕ → Type 0
-IsFirstPart parts_of text first rest = (parts_of text ≡ first ∷ parts_of rest) × (length rest < length text)
+IsFirstPart parts_of text first rest =
+    (parts_of text ≡ first ∷ parts_of rest) × (length rest < length text)
 
 -- the same for the parts between such bytes, or there is no such byte, and nothing is left
 abbrev pub IsCutAt : ℕ → List ℕ → List ℕ → List ℕ → Type 0

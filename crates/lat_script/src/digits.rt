@@ -12,7 +12,8 @@ use std::marker::Model;
 /// The most numbers of a coefficient list.
 pub const MAX_DIGITS: usize = 64;
 
-/// A coefficient list as a script gives it: 1 to 64 numbers from 0 to 255, the lowest coefficient first.
+/// A coefficient list as a script gives it: 1 to 64 numbers from 0 to 255, the lowest coefficient
+/// first.
 #[derive(Drop)]
 pub struct Digits {
     numbers: ArrayVec<u8, MAX_DIGITS>,
@@ -41,7 +42,8 @@ fn digits_of(c: &[u8]) -> Digits
 }
 
 impl Digits {
-    /// The list of these numbers; None exactly where there are none or more than 64. Takes no memory.
+    /// The list of these numbers; None exactly where there are none or more than 64. Takes no
+    /// memory.
     pub fn of(c: &[u8]) -> Option<Digits>
         ensures { SomeIff result (IsDigitCount (length c.now)) c.now }
     {
@@ -68,7 +70,8 @@ impl Digits {
     }
 }
 
-// Adds the number that the part is in decimal; None exactly where it is none up to 255, or there is no room for it.
+// Adds the number that the part is in decimal; None exactly where it is none up to 255, or there is
+// no room for it.
 fn push_number(numbers: &mut ArrayVec<u8, MAX_DIGITS>, part: &[u8]) -> Option<()>
     ensures { MatchOption result
         ((array_vec_len numbers.old ≡ MAX_DIGITS) ⊎ ((n : ℕ) → n < 256 → part.now ≢ decimal n))

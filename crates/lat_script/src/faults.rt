@@ -3,7 +3,8 @@
 use std::alloc::{AllocError, AllocFailed};
 use thiserror::Error;
 
-/// The kind of fault of a first line, among those that aren't passed over, that isn't the header `lattice 1`.
+/// The kind of fault of a first line, among those that aren't passed over, that isn't the header
+/// `lattice 1`.
 pub const NO_HEADER: u32 = 1;
 
 /// The kind of fault of a line with more than `MAX_LINE` bytes.
@@ -35,8 +36,8 @@ impl<T: Drop> From<AllocFailed<T>> for NoMemory {
 /// Why bytes gave no script.
 #[derive(Debug, Drop, Error)]
 pub enum ScriptFault {
-    /// The bytes spell no script: `number` is the first bad line, counted from 1, and `kind` is the kind of its fault:
-    /// `NO_HEADER`, `TOO_LONG`, `NO_FORM` or `TOO_MANY_COMMANDS`.
+    /// The bytes spell no script: `number` is the first bad line, counted from 1, and `kind` is the
+    /// kind of its fault: `NO_HEADER`, `TOO_LONG`, `NO_FORM` or `TOO_MANY_COMMANDS`.
     #[error("line {number}: fault of kind {kind}")]
     Line { number: u32, kind: u32 },
     /// Memory was refused.

@@ -134,13 +134,14 @@ fn read(alloc: Global, bytes: &[u8]) -> Result<Script, ScriptFault>
     }
 }
 
-/// The one script that the bytes spell, or their first fault: the first bad line, counted from 1 over all lines,
-/// and the kind of its fault. One pass over the bytes, which aren't copied.
+/// The one script that the bytes spell, or their first fault: the first bad line, counted from 1 over
+/// all lines, and the kind of its fault. One pass over the bytes, which aren't copied.
 pub fn parse(alloc: Global, bytes: &[u8]) -> Result<Script, ScriptFault>
     requires { length bytes.now ≤ MAX_SCRIPT }
 
     ensures script { IfOk result (λ script. Spells bytes.now script) }
-    ensures fault { (n kind : ℕ) → result ≡ Err (ScriptFault.Line n kind) → FirstBad bytes.now n kind }
+    ensures fault { (n kind : ℕ) → result ≡ Err (ScriptFault.Line n kind)
+        → FirstBad bytes.now n kind }
 
     // A text that spells a script gives it, and one with a fault gives that.
     ensures every_script { (script : Script) → Spells bytes.now script
