@@ -14,7 +14,7 @@ use Rattle.lat_script.specs.declared.replies.StepRefusal.{StepRefusal}
 use Rattle.lat_script.specs.declared.replies.StepRefusal.TheVariants.{CoefficientTooLarge, Reducible}
 use Rattle.lat_script.specs.declared.replies.Outcome.TheVariants.{Changed}
 use Rattle.lat_script.specs.Texts.{line_text, bad_line_text}
-use Rattle.lat_script.proofs.GrammarLemmas.{script_unique, fault_unique, never_both}
+use Rattle.lat_script.proofs.OneMeaning.{script_unique, fault_unique, never_both}
 use Rattle.lattice_run.specs.Lattice.{FieldRow, IsFirstTooLarge, IsWellFormed, IsMalformed, AnswersTakenName, Declares, opening}
 use Rattle.lattice_run.specs.Lattice.AnswersTakenName.{same, other}
 use Rattle.lattice_run.specs.Lattice.Declares.{malformed, named, reducible, full, declared}

@@ -23,7 +23,7 @@ use Rattle.lat_script.specs.declared.replies.Reply.TheVariants.{Declared, Refuse
 use Rattle.lat_script.specs.declared.replies.StepRefusal.{StepRefusal}
 use Rattle.lat_script.specs.declared.replies.StepRefusal.TheVariants.{NotInTable, DegreeOutOfRange, CoefficientTooLarge, NotMonic, NameTaken, Reducible, TooManyFields}
 use Rattle.lat_script.specs.declared.replies.Outcome.TheVariants.{Changed}
-use Rattle.lat_script.proofs.Readings.{reading_exists}
+use Rattle.lat_script.proofs.SomeMeaning.{reading_exists}
 use Rattle.lat_script.specs.Texts.{line_text, summary_text, usage_text, bad_line_text, too_long_text}
 use Rattle.lattice_run.specs.declared.lattice.TheConstants.{MAX_FIELDS, TOP_DEGREE}
 use Rattle.lattice_run.specs.declared.run.TheConstants.{MAX_INPUT}

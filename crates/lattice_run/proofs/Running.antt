@@ -1,18 +1,14 @@
 -- From the parts of a run to its answer.
-use Rattle.std.proofs.Common.{◌≡◌, ℕ, ◌+◌, ◌≤◌, ◌<◌, List, [], ◌∷◌, length, map, drop, replicate, slice_index_or, refl, ◌∙◌, sym, ap, subst, arith, inl, inr, Option, Some, None, Bool, true, false, cond}
+use Rattle.std.proofs.Common.{◌≡◌, ℕ, ◌+◌, ◌≤◌, ◌<◌, List, [], ◌∷◌, length, map, drop, replicate, slice_index_or, refl, ◌∙◌, sym, ap, subst, arith, Option, Some, None, Bool, true, false}
 use Rattle.std.specs.Prelude.{◌↔◌, IsTrue, IfOk, OnErr, Result, Ok, Err, bytes_eq}
 use Rattle.std.proofs.Math.ListN.{drop_of_length-le}
-use Rattle.std.proofs.Common.{length-append}
-use Rattle.std.proofs.lemmas.Bool.{cases_lt}
 use Rattle.std.proofs.lemmas.List.{length-replicate}
 use Rattle.std.proofs.lemmas.Slice.Eq.{bytes_eq-Decides}
 use Rattle.lat_io.specs.declared.faults.ReadFault.{ReadFault}
 use Rattle.lat_io.specs.declared.faults.ReadFault.TheVariants.{Failed, TooLong, NoMemory as ReadNoMemory}
 use Rattle.lat_io.specs.Source.{ReadWhole, TakesFront, TakesAtMost, TookBefore}
 use Rattle.lat_io.specs.Streams.{Stream}
-use Rattle.lat_script.specs.declared.commands.Script.{Script}
-use Rattle.lat_script.specs.declared.commands.TheConstants.{MAX_COMMANDS}
-use Rattle.lat_script.specs.Grammar.{State, Row, Passed, Header, Run, opening, script_of, after, Says, Means, Spells, FirstBad, lines_of}
+use Rattle.lat_script.specs.Grammar.{FirstBad}
 use Rattle.lat_script.specs.Texts.{usage_text, bad_line_text, too_long_text}
 use Rattle.lat_script.specs.declared.faults.NoMemory.{NoMemory}
 use Rattle.lattice_run.specs.declared.run.TheConstants.{MAX_INPUT}
@@ -42,40 +38,6 @@ one_word f (x ∷ []) w t text b l h i e d =
     let same : t ≡ f x = e ∙ ap f i in
     let dec = bytes_eq-Decides t text in
     (λ k. ap (λ u. u ∷ []) (sym same ∙ dec.0 (sym d ∙ k)), λ k. d ∙ dec.1 (same ∙ head_same k))
-
--- ---- a script has at most MAX_COMMANDS commands
-after_fits : (state : State) (line : List ℕ) (row : Row) → length state.prologue ≤ MAX_COMMANDS
-    → Says state line (Ok row) → length (after state row).prologue ≤ MAX_COMMANDS
-unfolding Says
-after_fits state line Passed fits says = fits
-after_fits state line Header fits says = fits
-after_fits state line (Run c) fits says = elim (cases_lt (length state.prologue) MAX_COMMANDS) [
-  | inl l ↦ omega (arith, length-append state.prologue (c ∷ []))
-  | inr l ↦ absurd (says.1.1.1.1.0 (l, (c, says.0)))
-]
-
-ok_not_err : (s : Script) (e : ℕ × ℕ) → Ok s ≡ Err e → ⊥
-ok_not_err s e k = cc
-
-the_script : (b : Bool) (script other : Script) (e : ℕ × ℕ) → Ok script ≡ cond b (Ok other) (Err e)
-    → script ≡ other
-the_script true script other e k = cc
-the_script false script other e k = absurd (ok_not_err script e k)
-
-means_fits : (state : State) (n : ℕ) (lines : List (List ℕ)) (script : Script)
-    → length state.prologue ≤ MAX_COMMANDS → Means state n lines (Ok script)
-    → length script.prologue ≤ MAX_COMMANDS
-means_fits state n [] script fits means =
-    let same : script ≡ script_of state = the_script state.begun script (script_of state) (1, 1) means in
-    let length_same : length script.prologue ≡ length state.prologue = ap (λ s. length s.prologue) same in omega arith
-means_fits state n (line ∷ lines) script fits (Ok row, says, more) =
-    means_fits (after state row) (n + 1) lines script (after_fits state line row fits says) more
-means_fits state n (line ∷ lines) script fits (Err kind, says, more) = absurd (ok_not_err script (n, kind) more)
-
--- a script has no more commands than it may have
-pub script_fits : (input : List ℕ) (script : Script) → Spells input script
-    → length script.prologue ≤ MAX_COMMANDS
-script_fits input script spells = means_fits opening 1 (lines_of input) script (omega arith) spells
 
 -- ---- what is to be written
 -- an output of this status and text answers words and input

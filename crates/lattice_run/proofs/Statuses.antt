@@ -1,5 +1,5 @@
 -- The headline, from the way that a run leaves.
-use Rattle.std.proofs.Common.{◌≡◌, ◌≢◌, ℕ, zero, suc, ◌<◌, List, [], ◌∷◌, length, ◌≤◌, ◌+◌, ◌∙◌, sym, ap, subst, arith, inl, inr, lit<, Option, Some, None, refl}
+use Rattle.std.proofs.Common.{◌≡◌, ◌≢◌, ℕ, zero, suc, ◌<◌, List, [], ◌∷◌, length, ◌≤◌, ◌+◌, ◌∙◌, sym, ap, subst, arith, inl, inr, lit<, Option, Some, None}
 use Rattle.std.specs.Prelude.{◌⊎◌, Contains}
 use Rattle.std.specs.Io.KnownBytes.{Keeps, Appends}
 use Rattle.std.proofs.KnownBytes.{Keeps-refl}

@@ -82,13 +82,11 @@ fn prime_row(alloc: Global, p: u32) -> Result<Row, NoMemory>
 {
     let prime = Prime::of(p).unwrap();
     let polynomial = Poly::of_slice(prime, &[0, 1]).unwrap();
-    match format!(in alloc; "F{p}") {
-        Ok(text) => Ok(Row {
-            name: FieldName::declared(text.as_str()).unwrap(),
-            polynomial,
-        }),
-        Err(_) => Err(NoMemory),
-    }
+    let name = format!(in alloc; "F{p}")?;
+    Ok(Row {
+        name: FieldName::declared(name.as_str()).unwrap(),
+        polynomial,
+    })
 }
 
 // The place of the first number that isn't below p, of numbers with such a one.
@@ -148,9 +146,7 @@ impl Lattice {
     {
         let mut rows = Vec::new(alloc);
         for p in &CHARACTERISTICS {
-            if rows.push(prime_row(alloc, *p)?).is_err() {
-                return Err(NoMemory);
-            }
+            rows.push(prime_row(alloc, *p)?)?;
         }
         Ok(Lattice { rows })
     }
@@ -203,12 +199,10 @@ impl Lattice {
             name: name.copy(),
             polynomial,
         };
-        match self.rows.push(row) {
-            Ok(()) => Ok(Reply::Declared {
-                number,
-                already: false,
-            }),
-            Err(_) => Err(NoMemory),
-        }
+        self.rows.push(row)?;
+        Ok(Reply::Declared {
+            number,
+            already: false,
+        })
     }
 }

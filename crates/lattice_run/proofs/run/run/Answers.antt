@@ -1,5 +1,5 @@
 -- Each way out of the run.
-use Rattle.std.proofs.Common.{◌≡◌, List, ℕ, map, string_bytes, subst, sym, arith, refl}
+use Rattle.std.proofs.Common.{map, string_bytes, subst, sym, arith, refl}
 use Rattle.lat_io.specs.Source.{ReadWhole}
 use Rattle.lattice_run.specs.Answers.{IsSolo}
 use Rattle.lattice_run.proofs.Running.{ran_output, unread_input, usage_answers, whole_input, words_answers, long_input, too_long_answers, not_solo, unread_takes, whole_takes, before_takes}
