@@ -20,7 +20,13 @@ pub record Feed : Type 0 where
 
 -- a source that has given nothing yet
 abbrev pub new_feed : List ℕ → ℕ → List ℕ → Feed
-new_feed bytes piece fails = record { left = bytes; piece = piece; fails = fails; call = 1; faults = 0 }
+new_feed bytes piece fails = record {
+  left = bytes;
+  piece = piece;
+  fails = fails;
+  call = 1;
+  faults = 0;
+}
 
 -- the source after a call that gave `count` bytes
 abbrev pub gave : Feed → ℕ → Feed
@@ -47,7 +53,14 @@ pub record Store : Type 0 where
 
 -- a sink that holds nothing yet
 abbrev pub new_store : ℕ → ℕ → List ℕ → Store
-new_store room piece fails = record { held = []; room = room; piece = piece; fails = fails; call = 1; faults = 0 }
+new_store room piece fails = record {
+  held = [];
+  room = room;
+  piece = piece;
+  fails = fails;
+  call = 1;
+  faults = 0;
+}
 
 -- the sink after a call that took these bytes
 abbrev pub took : Store → List ℕ → Store

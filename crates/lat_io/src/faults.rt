@@ -1,4 +1,8 @@
 //! What goes wrong outside.
+ghost use Rattle.std.specs.Prelude.{◌≡◌};
+ghost use Rattle.lat_io.specs.declared.faults.ReadFault.TheVariants.{Failed as read_failed, NoMemory as no_memory};
+
+use std::alloc::AllocError;
 use thiserror::Error;
 
 /// A read or a write failed. The source or sink counted it.
@@ -23,4 +27,26 @@ pub enum ReadFault {
     /// There was no memory for the bytes.
     #[error("out of memory")]
     NoMemory,
+}
+
+impl From<AllocError> for NoMemory {
+    fn from(_error: AllocError) -> NoMemory {
+        NoMemory
+    }
+}
+
+impl From<Failed> for ReadFault {
+    ghost from_gives = { λ _ fault. fault ≡ read_failed };
+
+    fn from(_fault: Failed) -> ReadFault {
+        ReadFault::Failed
+    }
+}
+
+impl From<AllocError> for ReadFault {
+    ghost from_gives = { λ _ fault. fault ≡ no_memory };
+
+    fn from(_error: AllocError) -> ReadFault {
+        ReadFault::NoMemory
+    }
 }

@@ -1,12 +1,12 @@
 //! The outside: where bytes come from and where they go.
 //!
 //! A [`Source`] gives bytes and a [`Sink`] takes them. Each counts its faults, so that a caller can
-//! say that a read or a write failed only where that count rose. [`read_all`] reads a source to its
-//! end and [`write_all_of`] writes a whole piece, both over any source or sink.
+//! say that a read or a write failed exactly where that count rose. [`read_all`] reads a source to
+//! its end and [`write_all_of`] writes a whole piece, both over any source or sink.
 //!
 //! [`MemorySource`] and [`MemorySink`] work over memory, in pieces and with faults where they are
-//! asked for. [`StdSource`] and [`StdSink`] adapt std's `Read` and `Write`: what these give or take is
-//! known only while the program runs.
+//! asked for. [`StdSource`] and [`StdSink`] adapt std's `Read` and `Write`, and tell the bytes that
+//! std knows of these.
 #![tactic(auto)]
 
 mod calls;

@@ -1,7 +1,8 @@
-//! A sink over memory, for tests: it takes bytes in pieces up to its room, and fails where it is told to.
+//! A sink over memory, for tests: it takes bytes in pieces up to its room, and fails where it is
+//! told to.
 ghost use Rattle.std.specs.Prelude.{◌≡◌, ◌-◌, ◌^◌, ◌<◌, ◌≤◌, ◌↔◌, ◌⊎◌, length, take, min, Some, IfOk, OnErr, IsOk, IsErr, MatchResult, Contains};
 ghost use Rattle.std.specs.Io.KnownBytes.{Keeps, Appends};
-ghost use Rattle.lat_io.specs.Faults.{Rose};
+ghost use Rattle.lat_io.specs.Faults.{CountsFault};
 ghost use Rattle.lat_io.specs.Memory.{new_store, took, refused};
 
 use crate::calls::Calls;
@@ -35,14 +36,14 @@ impl Model for MemorySink {
       faults = sink.calls.faults;
     } };
 
-    ghost invariant = { λ sink. (vec_len sink.held ≤ sink.room) × (sink.room ≤ vec_capacity sink.held)
-        × (1 ≤ sink.piece) };
+    ghost invariant = { λ sink. (vec_len sink.held ≤ sink.room)
+        × (sink.room ≤ vec_capacity sink.held) × (1 ≤ sink.piece) };
 }
 
 impl MemorySink {
-    /// A sink that holds nothing, with room for `room` bytes, which takes at most `piece` bytes in one
-    /// call. The calls whose numbers stand in `fails` fail, the first having the number 1, and those with
-    /// bytes where the sink is full. It counts the calls that failed.
+    /// A sink that holds nothing, with room for `room` bytes, which takes at most `piece` bytes in
+    /// one call. The calls whose numbers stand in `fails` fail, the first having the number 1, and
+    /// those with bytes where the sink is full. It counts the calls that failed.
     ///
     /// All memory is taken here, `room` bytes at once. Requires that `piece` is at least 1.
     pub fn open(
@@ -55,15 +56,13 @@ impl MemorySink {
         ensures made { IfOk result (λ sink. sink ≡ new_store room piece fails.items) }
         ensures without_room { room ≡ 0 → IsOk result }
     {
-        match Vec::with_capacity(alloc, room) {
-            Ok(held) => Ok(MemorySink {
-                held,
-                room,
-                piece,
-                calls: Calls::new(fails),
-            }),
-            Err(_) => Err(NoMemory),
-        }
+        let held = Vec::with_capacity(alloc, room)?;
+        Ok(MemorySink {
+            held,
+            room,
+            piece,
+            calls: Calls::new(fails),
+        })
     }
 
     /// The bytes that the sink holds.
@@ -80,17 +79,17 @@ impl Sink for MemorySink {
 
     ghost faults = { λ sink. sink.faults };
 
-    /// Fails exactly where the number of this call is among those that fail, or there are bytes and the
-    /// sink is full; else it takes as many bytes as it is given, at most a piece and at most its room.
+    /// Fails exactly where the number of this call is among those that fail, or there are bytes and
+    /// the sink is full; else it takes as many bytes as it is given, at most a piece and at most
+    /// its room.
     fn write(&mut self, bytes: &[u8]) -> Result<usize, Failed>
         ensures within { IfOk result (λ count. count ≤ length bytes.now) }
         ensures some { IfOk result (λ count. 0 < length bytes.now → 0 < count) }
         ensures appended { IfOk result (λ count.
             Appends (Some self.old.held) (Some self.new.held) (take count bytes.now)) }
-
-        ensures failed { OnErr result (Rose self.old.faults self.new.faults) }
         ensures kept { OnErr result (Keeps (Some self.old.held) (Some self.new.held)) }
 
+        ensures counted { CountsFault result self.old.faults self.new.faults }
         ensures never_falls { self.old.faults ≤ self.new.faults }
         ensures fits { self.new.faults < 2 ^ 64 }
 
@@ -99,7 +98,8 @@ impl Sink for MemorySink {
             ⊎ ((0 < length bytes.now) × (length self.old.held ≡ self.old.room))) }
         ensures takes { IfOk result (λ count. count ≡
             min (min self.old.piece (length bytes.now)) (self.old.room - length self.old.held)) }
-        ensures after { MatchResult result (λ count. self.new ≡ took self.old (take count bytes.now))
+        ensures after { MatchResult result
+            (λ count. self.new ≡ took self.old (take count bytes.now))
             (λ _. self.new ≡ refused self.old) }
     {
         let is_full = !bytes.is_empty() && self.held.len() == self.room;

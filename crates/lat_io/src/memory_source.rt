@@ -1,7 +1,7 @@
 //! A source over memory, for tests: it gives its bytes in pieces, and fails where it is told to.
 ghost use Rattle.std.specs.Prelude.{◌≡◌, ◌^◌, ◌<◌, ◌≤◌, ◌↔◌, [], length, take, min, Some, IfSome, IfOk, OnErr, IsErr, MatchResult, Contains};
 ghost use Rattle.std.specs.Io.KnownBytes.{Keeps, Consumes};
-ghost use Rattle.lat_io.specs.Faults.{Rose};
+ghost use Rattle.lat_io.specs.Faults.{CountsFault};
 ghost use Rattle.lat_io.specs.Memory.{new_feed, gave, missed};
 
 use crate::calls::Calls;
@@ -37,8 +37,9 @@ impl Model for MemorySource {
 }
 
 impl MemorySource {
-    /// A source of `bytes`, which gives at most `piece` of them in one call. The calls whose numbers stand
-    /// in `fails` fail, and no other; the first call has the number 1. It counts the calls that failed.
+    /// A source of `bytes`, which gives at most `piece` of them in one call. The calls whose
+    /// numbers stand in `fails` fail, and no other; the first call has the number 1. It counts the
+    /// calls that failed.
     ///
     /// Requires that `piece` is at least 1.
     pub fn new(bytes: Vec<u8>, piece: usize, fails: Vec<u32>) -> MemorySource
@@ -59,18 +60,17 @@ impl Source for MemorySource {
 
     ghost faults = { λ source. source.faults };
 
-    /// Fails exactly where the number of this call is among those that fail; else it gives as many bytes
-    /// as are left, at most a piece and at most `buf` has room for.
+    /// Fails exactly where the number of this call is among those that fail; else it gives as many
+    /// bytes as are left, at most a piece and at most `buf` has room for.
     fn read(&mut self, buf: &mut [u8]) -> Result<usize, Failed>
         ensures within { IfOk result (λ count. count ≤ length buf.new) }
         ensures taken { IfOk result (λ count.
             Consumes (Some self.old.left) (Some self.new.left) (take count buf.new)) }
         ensures end { IfOk result (λ count. 0 < length buf.new →
             IfSome (Some self.old.left) (λ bytes. (count ≡ 0) ↔ (bytes ≡ []))) }
-
-        ensures failed { OnErr result (Rose self.old.faults self.new.faults) }
         ensures kept { OnErr result (Keeps (Some self.old.left) (Some self.new.left)) }
 
+        ensures counted { CountsFault result self.old.faults self.new.faults }
         ensures never_falls { self.old.faults ≤ self.new.faults }
         ensures fits { self.new.faults < 2 ^ 64 }
 
@@ -90,7 +90,8 @@ impl Source for MemorySource {
     }
 }
 
-// Copies the first bytes of `left` to the front of `buf`, at most `piece` of them, and says how many.
+// Copies the first bytes of `left` to the front of `buf`, at most `piece` of them, and says how
+// many.
 fn give(left: &[u8], piece: usize, buf: &mut [u8]) -> usize
     ensures count { result ≡ min (min piece (length buf.old)) (length left.now) }
     ensures copied { take result buf.new ≡ take result left.now }

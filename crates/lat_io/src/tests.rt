@@ -104,6 +104,31 @@ fn goes_on_after_a_fault(rt: HostRuntime) -> Result<(), Fail> {
     Ok(())
 }
 
+// A fault after the end is met by a reader that reads on, and not by `read_all`.
+#[test]
+fn reads_on_after_the_end(rt: HostRuntime) -> Result<(), Fail> {
+    let alloc = rt.alloc();
+    let mut source = source(alloc, 100, &[3])?;
+    assert_eq!(rt; read_all(alloc, &mut source, 26)?.as_slice(), TEXT);
+    let mut buf = [0u8; 8];
+    assert_eq!(rt; source.read(&mut buf), Err(Failed));
+    assert_eq!(rt; source.read(&mut buf), Ok(0));
+    Ok(())
+}
+
+// After a fault, what is left begins where the last read that succeeded ended.
+#[test]
+fn reads_the_rest_after_a_fault(rt: HostRuntime) -> Result<(), Fail> {
+    let alloc = rt.alloc();
+    let mut source = source(alloc, 4, &[3])?;
+    assert_eq!(rt;
+        read_all(alloc, &mut source, 26).err(),
+        Some(ReadFault::Failed)
+    );
+    assert_eq!(rt; read_all(alloc, &mut source, 26)?.as_slice(), &TEXT[8..]);
+    Ok(())
+}
+
 #[test]
 fn writes_in_pieces(rt: HostRuntime) -> Result<(), Fail> {
     expect_write(&rt, &mut sink(rt.alloc(), 26, 1, &[])?, TEXT, Ok(()), TEXT);

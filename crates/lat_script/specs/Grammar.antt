@@ -1,13 +1,13 @@
--- The script language: from the bytes of a text to the script that it spells, or to its first fault.
+-- The script language: from the bytes of a text to the script that it spells, or its first fault.
 --     lines_of bytes               the lines of a text, each without its line feed
 --     words_of line                the words of a line, between its spaces
 --     IsPassedOver line            the line has only spaces, or is a comment
 --     command_words c              the words of a command
---     IsCommand c                  its operands are names, numbers and lists as the grammar has them
+--     IsCommand c                  its operands are names, numbers and lists of the grammar
 --     SpellsCommand words c        the words are those of the command
---     HasForm state line row       the line has the form of the row
---     faults state line            the conditions of faults of a line, in the order in which they are looked at
---     Says state line said         what a line says: a row, or the kind of its fault
+--     HasForm state line form      the line has this form
+--     faults state line            the conditions of faults of a line, in their order
+--     Says state line said         what a line says: its form, or the kind of its fault
 --     Means state n lines read     what lines say, from line n on, after what the state holds
 --     Spells bytes script          the bytes spell the script
 --     FirstBad bytes n kind        line n is the first bad one, and kind is its fault
@@ -17,6 +17,7 @@ use Rattle.lat_script.specs.declared.commands.TheConstants.{MAX_LINE, MAX_COMMAN
 use Rattle.lat_script.specs.declared.commands.Command.{Command}
 use Rattle.lat_script.specs.declared.commands.Command.TheVariants.{Field}
 use Rattle.lat_script.specs.declared.commands.Script.{Script}
+use Rattle.lat_script.specs.declared.faults.TheConstants.{TOO_LONG, NO_HEADER, NO_FORM, TOO_MANY_COMMANDS}
 use Rattle.lat_script.specs.Names.{IsDeclaredName}
 use Rattle.lat_script.specs.Digits.{AreDigits, digits_text}
 
@@ -59,37 +60,47 @@ pub record State : Type 0 where
   pub prologue : List Command
 
 -- before the first line
-abbrev pub opening : State
-opening = record { begun = false; prologue = [] }
+abbrev pub at_start : State
+at_start = record { begun = false; prologue = [] }
 
 abbrev pub script_of : State → Script
 script_of state = record { prologue = state.prologue }
 
--- what a line without a fault says: nothing, the header, or a command
-pub data Row : Type 0 where
-  Passed : Row
-  Header : Row
-  Run : Command → Row
+-- the form of a line without a fault: it is passed over, the header, or a command
+pub data Form : Type 0 where
+  PassedOver : Form
+  Header : Form
+  OfCommand : Command → Form
 
--- what the lines have said after one more, which says the row
-abbrev pub after : State → Row → State
-after state Passed = state
+-- what the lines have said after one more, which has this form
+abbrev pub after : State → Form → State
+after state PassedOver = state
 after state Header = record { begun = true; prologue = state.prologue }
-after state (Run c) = record { begun = state.begun; prologue = state.prologue ++ c ∷ [] }
+after state (OfCommand c) = record { begun = state.begun; prologue = state.prologue ++ c ∷ [] }
 
 -- `lattice 1` has the form of the header only where no header stands before it
-abbrev pub HasForm : State → List ℕ → Row → Type 0
-HasForm state line Passed = IsPassedOver line
+abbrev pub HasForm : State → List ℕ → Form → Type 0
+HasForm state line PassedOver = IsPassedOver line
 HasForm state line Header = (words_of line ≡ header_words) × (state.begun ≡ false)
-HasForm state line (Run c) = SpellsCommand (words_of line) c
+HasForm state line (OfCommand c) = SpellsCommand (words_of line) c
 
--- each kind of fault with its condition
+-- no header stands before the line, and it is neither passed over nor the header
+abbrev pub LacksHeader : State → List ℕ → Type 0
+LacksHeader state line =
+    (state.begun ≡ false) × ¬ (HasForm state line PassedOver) × ¬ (HasForm state line Header)
+
+-- a command before which as many stand as there may be
+abbrev pub IsOneTooMany : State → List ℕ → Type 0
+IsOneTooMany state line =
+    (MAX_COMMANDS ≤ length state.prologue) × ((c : Command) × HasForm state line (OfCommand c))
+
+-- each kind of fault with its condition, in the order in which they are looked at
 abbrev pub faults : State → List ℕ → List (ℕ × Type 0)
 faults state line =
-    (2, MAX_LINE < length line)
-    ∷ (1, (state.begun ≡ false) × ¬ (HasForm state line Passed) × ¬ (HasForm state line Header))
-    ∷ (3, (row : Row) → ¬ (HasForm state line row))
-    ∷ (6, (MAX_COMMANDS ≤ length state.prologue) × ((c : Command) × HasForm state line (Run c)))
+    (TOO_LONG, MAX_LINE < length line)
+    ∷ (NO_HEADER, LacksHeader state line)
+    ∷ (NO_FORM, (form : Form) → ¬ (HasForm state line form))
+    ∷ (TOO_MANY_COMMANDS, IsOneTooMany state line)
     ∷ []
 
 -- the first condition that holds is that of this kind
@@ -102,19 +113,21 @@ abbrev pub NoneHolds : List (ℕ × Type 0) → Type 0
 NoneHolds [] = Unit {0}
 NoneHolds (fault ∷ more) = (¬ fault.1) × NoneHolds more
 
--- a row where no condition of a fault holds, else the kind of the first that does
-unfoldable pub Says : State → List ℕ → Result Row ℕ → Type 0
-Says state line (Ok row) = HasForm state line row × NoneHolds (faults state line)
+-- its form where no condition of a fault holds, else the kind of the first that does
+unfoldable pub Says : State → List ℕ → Result Form ℕ → Type 0
+Says state line (Ok form) = HasForm state line form × NoneHolds (faults state line)
 Says state line (Err kind) = IsFirst (faults state line) kind
 
--- Line by line, up to the first fault. Where every line is passed over, or there is none, kind 1 stands at line 1.
+-- Line by line, up to the first fault. Where every line is passed over, or there is none, line 1
+-- lacks the header.
 abbrev pub Means : State → ℕ → List (List ℕ) → Result Script (ℕ × ℕ) → Type 0
-Means state n [] read = read ≡ (if state.begun then Ok (script_of state) else Err (1, 1))
-Means state n (line ∷ lines) read = (said : Result Row ℕ) × Says state line said
-    × MatchResult said (λ row. Means (after state row) (n + 1) lines read) (λ kind. read ≡ Err (n, kind))
+Means state n [] read = read ≡ (if state.begun then Ok (script_of state) else Err (1, NO_HEADER))
+Means state n (line ∷ lines) read = (said : Result Form ℕ) × Says state line said
+    × MatchResult said (λ form. Means (after state form) (n + 1) lines read)
+    (λ kind. read ≡ Err (n, kind))
 
 abbrev pub Spells : List ℕ → Script → Type 0
-Spells bytes script = Means opening 1 (lines_of bytes) (Ok script)
+Spells bytes script = Means at_start 1 (lines_of bytes) (Ok script)
 
 abbrev pub FirstBad : List ℕ → ℕ → ℕ → Type 0
-FirstBad bytes n kind = Means opening 1 (lines_of bytes) (Err (n, kind))
+FirstBad bytes n kind = Means at_start 1 (lines_of bytes) (Err (n, kind))

@@ -1,7 +1,8 @@
 pub mod Names
 pub mod Digits
 pub mod Grammar
-pub mod Cuts
-pub mod Parsing
 pub mod Texts
-pub mod Pieces
+pub mod ScriptLaws
+pub mod PrivateCuts
+pub mod PrivateParsing
+pub mod PrivateAppending

@@ -2,9 +2,9 @@
 
 ghost use Rattle.std.specs.Prelude.{◌≡◌, [], ◌∷◌, ◌++◌, OnOk, OnErr};
 
+use crate::digits::Digits;
 use crate::faults::NoMemory;
 use crate::names::FieldName;
-use crate::numerals::Digits;
 use std::alloc::Global;
 use std::marker::Model;
 
@@ -20,7 +20,8 @@ pub const MAX_COMMANDS: usize = 20_000;
 /// A command of a script.
 #[derive(Drop)]
 pub enum Command {
-    /// `field NAME P COEFFICIENTS`: declares the field of this characteristic and polynomial under this name.
+    /// `field NAME P COEFFICIENTS`: declares the field of this characteristic and polynomial under
+    /// this name.
     Field {
         name: FieldName,
         p: u32,
@@ -60,15 +61,14 @@ impl CommandList {
         self.items.as_slice()
     }
 
-    /// Adds a command at the end. Where memory is refused the list is as before, and the command is dropped.
+    /// Adds a command at the end. Where memory is refused the list is as before, and the command is
+    /// dropped.
     pub fn push(&mut self, command: Command) -> Result<(), NoMemory>
         ensures ok { OnOk result (self.new ≡ self.old ++ command ∷ []) }
         ensures err { OnErr result (self.new ≡ self.old) }
     {
-        match self.items.push(command) {
-            Ok(()) => Ok(()),
-            Err(_) => Err(NoMemory),
-        }
+        self.items.push(command)?;
+        Ok(())
     }
 }
 

@@ -3,7 +3,7 @@
 ghost use Rattle.std.specs.Prelude.{◌≡◌, ◌≢◌, ℕ, ◌<◌, ◌≤◌, ◌==◌, List, [], ◌∷◌, length, slice_index, position, MatchOption};
 ghost use Rattle.std.specs.List.{slice_split};
 ghost use Rattle.lat_script.specs.Grammar.{lines_of, words_of};
-ghost use Rattle.lat_script.specs.Cuts.{CutsFirst, TakesFirst};
+ghost use Rattle.lat_script.specs.PrivateCuts.{IsCutAt, IsFirstPart};
 
 // The place of the first such byte; None exactly where there is none.
 fn place_of(text: &[u8], byte: u8) -> Option<usize>
@@ -15,7 +15,7 @@ fn place_of(text: &[u8], byte: u8) -> Option<usize>
 // What stands before the first such byte, and after it; None exactly where there is no such byte.
 pub(crate) fn cut(text: &[u8], byte: u8) -> Option<(&[u8], &[u8])>
     ensures { MatchOption result (slice_split (λ b. b == byte) text.now ≡ text.now ∷ [])
-        (λ cut. TakesFirst (slice_split (λ b. b == byte)) text.now cut.0.now cut.1.now) }
+        (λ cut. IsFirstPart (slice_split (λ b. b == byte)) text.now cut.0.now cut.1.now) }
 {
     match place_of(text, byte) {
         None => None,
@@ -25,7 +25,7 @@ pub(crate) fn cut(text: &[u8], byte: u8) -> Option<(&[u8], &[u8])>
 
 // The same, where the whole text stands before the byte if it has none.
 fn cut_or_all(text: &[u8], byte: u8) -> (&[u8], &[u8])
-    ensures { CutsFirst byte text.now result.0.now result.1.now }
+    ensures { IsCutAt byte text.now result.0.now result.1.now }
 {
     match cut(text, byte) {
         None => (text, &text[text.len()..]),
@@ -36,7 +36,7 @@ fn cut_or_all(text: &[u8], byte: u8) -> (&[u8], &[u8])
 // The first line, and the text of those after it; None exactly where the text has no line.
 pub(crate) fn first_line(text: &[u8]) -> Option<(&[u8], &[u8])>
     ensures { MatchOption result (lines_of text.now ≡ [])
-        (λ cut. TakesFirst lines_of text.now cut.0.now cut.1.now) }
+        (λ cut. IsFirstPart lines_of text.now cut.0.now cut.1.now) }
 {
     if text.is_empty() {
         return None;
@@ -44,7 +44,7 @@ pub(crate) fn first_line(text: &[u8]) -> Option<(&[u8], &[u8])>
     Some(cut_or_all(text, b'\n'))
 }
 
-#[tactic(auto, using(crate::proofs::CutLemmas::words_space_at))]
+#[tactic(auto, using(crate::proofs::LinesAndWords::words_space_at))]
 // The text from its first byte on that isn't a space.
 fn without_spaces_before(text: &[u8]) -> &[u8]
     ensures words { words_of result.now ≡ words_of text.now }
@@ -62,7 +62,7 @@ fn without_spaces_before(text: &[u8]) -> &[u8]
 // The first word, and the text of those after it; None exactly where the text has no word.
 pub(crate) fn first_word(text: &[u8]) -> Option<(&[u8], &[u8])>
     ensures { MatchOption result (words_of text.now ≡ [])
-        (λ cut. TakesFirst words_of text.now cut.0.now cut.1.now) }
+        (λ cut. IsFirstPart words_of text.now cut.0.now cut.1.now) }
 {
     let text = without_spaces_before(text);
     if text.is_empty() {

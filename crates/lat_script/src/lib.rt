@@ -1,23 +1,25 @@
 //! The script language: its commands, the parser, and the lines that answer a script.
 #![tactic(auto)]
 
+mod appending;
 mod commands;
 mod cutting;
+mod digits;
 mod faults;
+mod laws;
+mod line_forms;
 mod names;
 mod numbers;
-mod numerals;
 mod parsing;
-mod pieces;
-mod reading;
 mod replies;
 mod texts;
 
 pub use commands::{Command, CommandList, MAX_COMMANDS, MAX_LINE, MAX_SCRIPT, Script};
-pub use faults::{NoMemory, ScriptFault};
+pub use digits::{Digits, MAX_DIGITS};
+pub use faults::{NO_FORM, NO_HEADER, NoMemory, ScriptFault, TOO_LONG, TOO_MANY_COMMANDS};
+pub use laws::{limits, one_reading, printable_lines, spelled_texts};
 pub use names::{FieldName, MAX_NAME};
-pub use numerals::{Digits, MAX_DIGITS};
-pub use parsing::{limits, one_reading, parse, printable_lines};
+pub use parsing::parse;
 pub use replies::{Line, Outcome, Reply, StepRefusal};
 pub use texts::{add_bad_line, add_line, add_summary, add_too_long, add_usage};
 

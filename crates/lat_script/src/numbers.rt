@@ -1,12 +1,6 @@
-//! Numbers and coefficient lists as words.
+//! Numbers as words.
 
-ghost use Rattle.arrayvec.specs.ArrayVec.{array_vec_len};
-ghost use Rattle.std.specs.Prelude.{◌≡◌, ◌≢◌, ◌⊎◌, ℕ, ◌<◌, ◌≤◌, List, [], ◌∷◌, ◌++◌, length, slice_index, ◌==◌, ◌&&◌, nat_lt, decimal, MatchOption};
-ghost use Rattle.lat_script.specs.Digits.{AreDigits, digits_text};
-
-use crate::cutting::cut;
-use crate::numerals::{Digits, MAX_DIGITS};
-use arrayvec::ArrayVec;
+ghost use Rattle.std.specs.Prelude.{◌≡◌, ◌≢◌, ℕ, ◌≤◌, length, slice_index, ◌==◌, ◌&&◌, nat_lt, decimal, MatchOption};
 
 // Whether a zero stands before other digits.
 fn has_leading_zero(word: &[u8]) -> bool
@@ -16,7 +10,7 @@ fn has_leading_zero(word: &[u8]) -> bool
 }
 
 // The number that the word is in decimal; None exactly where it is none up to the bound.
-pub(crate) fn number(word: &[u8], bound: u64) -> Option<u64>
+pub(crate) fn read_number(word: &[u8], bound: u64) -> Option<u64>
     ensures { MatchOption result ((n : ℕ) → n ≤ bound → word.now ≢ decimal n)
         (λ n. (n ≤ bound) × (word.now ≡ decimal n)) }
 {
@@ -34,31 +28,4 @@ pub(crate) fn number(word: &[u8], bound: u64) -> Option<u64>
         }
     }
     Some(value as u64)
-}
-
-// Adds the number that the part is in decimal; None exactly where it is none up to 255, or there is no room for it.
-fn push_number(numbers: &mut ArrayVec<u8, MAX_DIGITS>, part: &[u8]) -> Option<()>
-    ensures { MatchOption result
-        ((array_vec_len numbers.old ≡ MAX_DIGITS) ⊎ ((n : ℕ) → n < 256 → part.now ≢ decimal n))
-        (λ _. (n : ℕ) × (n < 256) × (part.now ≡ decimal n) × (numbers.new.items ≡ numbers.old.items ++ n ∷ [])) }
-{
-    match number(part, u64::from(u8::MAX)) {
-        None => None,
-        Some(number) => numbers.try_push(number as u8).ok(),
-    }
-}
-
-// The coefficient list that the word is; None exactly where it is none.
-pub(crate) fn digits(word: &[u8]) -> Option<Digits>
-    ensures { MatchOption result ((c : List ℕ) → AreDigits c → word.now ≢ digits_text c)
-        (λ c. AreDigits c × (word.now ≡ digits_text c)) }
-{
-    let mut numbers = ArrayVec::new();
-    let mut rest = word;
-    while let Some((part, after)) = cut(rest, b',') {
-        push_number(&mut numbers, part)?;
-        rest = after;
-    }
-    push_number(&mut numbers, rest)?;
-    Digits::of(numbers.as_slice())
 }

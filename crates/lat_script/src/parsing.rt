@@ -1,35 +1,31 @@
 //! The parser: one pass over the lines.
 
-ghost use Rattle.std.specs.Prelude.{◌≡◌, ◌⊎◌, ℕ, ◌≤◌, true, List, length, All, Ok, Err, IfOk};
-ghost use Rattle.std.specs.Int.{IsInRange};
-ghost use Rattle.lat_script.specs.declared.commands.Command.{Command};
+ghost use Rattle.std.specs.Prelude.{◌≡◌, ◌⊎◌, ℕ, ◌≤◌, true, length, Ok, Err, IfOk};
 ghost use Rattle.lat_script.specs.declared.commands.Script.{Script};
-ghost use Rattle.lat_script.specs.declared.names.TheConstants.{MAX_NAME};
-ghost use Rattle.lat_script.specs.declared.numerals.TheConstants.{MAX_DIGITS};
-ghost use Rattle.lat_script.specs.Grammar.{opening, words_of, IsPassedOver, header_words, SpellsCommand, Spells, FirstBad};
-ghost use Rattle.lat_script.specs.Parsing.{at_line, TakesLine, Reads};
+ghost use Rattle.lat_script.specs.Grammar.{at_start, IsPassedOver, Spells, FirstBad};
+ghost use Rattle.lat_script.specs.declared.parsing.LineFault.TheVariants.{NoMemory as no_memory};
+ghost use Rattle.lat_script.specs.PrivateParsing.{at_line, TakesLine, Reads};
 
 use crate::commands::{CommandList, MAX_COMMANDS, MAX_LINE, MAX_SCRIPT, Script};
 use crate::cutting::first_line;
-use crate::faults::ScriptFault;
-use crate::reading::{command, is_header, is_passed_over};
+use crate::faults::{NO_FORM, NO_HEADER, NoMemory, ScriptFault, TOO_LONG, TOO_MANY_COMMANDS};
+use crate::line_forms::{command, is_header, is_passed_over};
 use std::alloc::Global;
 use std::marker::Model;
-
-// The kinds of fault.
-const NO_HEADER: u32 = 1;
-
-const TOO_LONG: u32 = 2;
-
-const NO_FORM: u32 = 3;
-
-const TOO_MANY_COMMANDS: u32 = 6;
 
 // Why a line wasn't taken.
 #[derive(Drop)]
 enum LineFault {
     Bad(u32),
     NoMemory,
+}
+
+impl From<NoMemory> for LineFault {
+    ghost from_gives = { λ _ made. made ≡ no_memory };
+
+    fn from(_error: NoMemory) -> LineFault {
+        LineFault::NoMemory
+    }
 }
 
 impl LineFault {
@@ -61,7 +57,7 @@ impl Model for Reader {
 
 impl Reader {
     fn new(alloc: Global) -> Reader
-        ensures { result ≡ opening }
+        ensures { result ≡ at_start }
     {
         Reader {
             begun: false,
@@ -70,7 +66,7 @@ impl Reader {
     }
 
     // Adds the command that the line is.
-    #[tactic(auto, using(crate::proofs::GrammarLemmas::says_no_form))]
+    #[tactic(auto, using(crate::proofs::LineMeanings::says_no_form))]
     fn take_command(&mut self, line: &[u8]) -> Result<(), LineFault>
         requires begun { self.old.begun ≡ true }
         requires fits { length line.now ≤ MAX_LINE }
@@ -84,14 +80,12 @@ impl Reader {
         if full {
             return Err(LineFault::Bad(TOO_MANY_COMMANDS));
         }
-        let Ok(()) = self.prologue.push(command) else {
-            return Err(LineFault::NoMemory);
-        };
+        self.prologue.push(command)?;
         Ok(())
     }
 
     // Takes the next line.
-    #[tactic(auto, using(crate::proofs::GrammarLemmas::says_too_long, crate::proofs::GrammarLemmas::says_no_header))]
+    #[tactic(auto, using(crate::proofs::LineMeanings::says_too_long, crate::proofs::LineMeanings::says_no_header))]
     fn take(&mut self, line: &[u8]) -> Result<(), LineFault>
         ensures { TakesLine self.old line.now self.new result }
     {
@@ -140,13 +134,14 @@ fn read(alloc: Global, bytes: &[u8]) -> Result<Script, ScriptFault>
     }
 }
 
-/// The one script that the bytes spell, or their first fault: the first bad line, counted from 1 over all lines,
-/// and the kind of its fault. One pass over the bytes, which aren't copied.
+/// The one script that the bytes spell, or their first fault: the first bad line, counted from 1 over
+/// all lines, and the kind of its fault. One pass over the bytes, which aren't copied.
 pub fn parse(alloc: Global, bytes: &[u8]) -> Result<Script, ScriptFault>
     requires { length bytes.now ≤ MAX_SCRIPT }
 
     ensures script { IfOk result (λ script. Spells bytes.now script) }
-    ensures fault { (n kind : ℕ) → result ≡ Err (ScriptFault.Line n kind) → FirstBad bytes.now n kind }
+    ensures fault { (n kind : ℕ) → result ≡ Err (ScriptFault.Line n kind)
+        → FirstBad bytes.now n kind }
 
     // A text that spells a script gives it, and one with a fault gives that.
     ensures every_script { (script : Script) → Spells bytes.now script
@@ -156,23 +151,3 @@ pub fn parse(alloc: Global, bytes: &[u8]) -> Result<Script, ScriptFault>
 {
     read(alloc, bytes)
 }
-
-/// Bytes have one reading: they spell one script, or have one first fault, and never both.
-pub fn one_reading()
-    ensures scripts { (bytes : List ℕ) (s t : Script) → Spells bytes s → Spells bytes t → s ≡ t }
-    ensures faults { (bytes : List ℕ) (m n k l : ℕ) → FirstBad bytes m k → FirstBad bytes n l → (m ≡ n) × (k ≡ l) }
-    ensures never_both { (bytes : List ℕ) (s : Script) (n k : ℕ) → Spells bytes s → FirstBad bytes n k → ⊥ }
-    ensures some { (bytes : List ℕ) → ((script : Script) × Spells bytes script)
-        ⊎ ((n : ℕ) × (kind : ℕ) × FirstBad bytes n kind) }
-{}
-
-/// A line that is the header or a command holds bytes from 32 to 126 only.
-pub fn printable_lines()
-    ensures header { (line : List ℕ) → words_of line ≡ header_words → All (IsInRange 32 126) line }
-    ensures command { (line : List ℕ) (c : Command) → SpellsCommand (words_of line) c → All (IsInRange 32 126) line }
-{}
-
-/// The limits of the language, as numbers.
-pub fn limits()
-    ensures { (MAX_SCRIPT ≡ 1048576) × (MAX_LINE ≡ 4096) × (MAX_COMMANDS ≡ 20000) × (MAX_NAME ≡ 32) × (MAX_DIGITS ≡ 64) }
-{}

@@ -1,15 +1,16 @@
 //! The lines that the program prints.
 
 ghost use Rattle.std.specs.Prelude.{◌≡◌, [], ◌++◌, if◌then◌else◌, codes, decimal, OnOk, OnErr};
-ghost use Rattle.lat_script.specs.Pieces.{Extends};
+ghost use Rattle.lat_script.specs.PrivateAppending.{Extends};
 ghost use Rattle.lat_script.specs.Texts.{refusal_text, reply_text, outcome_text, line_text, summary_text, bad_line_text, too_long_text, usage_text};
 
+use crate::appending::{Piece, append};
 use crate::faults::NoMemory;
-use crate::pieces::{Piece, append};
 use crate::replies::{Line, Outcome, Reply, StepRefusal};
 
 fn add_refusal(out: &mut Vec<u8>, refusal: &StepRefusal) -> Result<(), NoMemory>
-    ensures ok { OnOk result (out.new.items ≡ out.old.items ++ (codes "refused " ++ refusal_text refusal.now)) }
+    ensures ok { OnOk result
+        (out.new.items ≡ out.old.items ++ (codes "refused " ++ refusal_text refusal.now)) }
     ensures err { OnErr result (out.new.items ≡ out.old.items) }
 {
     match refusal {
@@ -80,7 +81,8 @@ fn add_outcome(out: &mut Vec<u8>, outcome: &Outcome) -> Result<(), NoMemory>
 
 // Ends a line with its mark.
 fn add_mark(out: &mut Vec<u8>, mark: u32) -> Result<(), NoMemory>
-    ensures ok { OnOk result (out.new.items ≡ out.old.items ++ (codes " @" ++ decimal mark ++ codes "\n")) }
+    ensures ok { OnOk result
+        (out.new.items ≡ out.old.items ++ (codes " @" ++ decimal mark ++ codes "\n")) }
     ensures err { OnErr result (out.new.items ≡ out.old.items) }
 {
     append(
@@ -89,20 +91,19 @@ fn add_mark(out: &mut Vec<u8>, mark: u32) -> Result<(), NoMemory>
     )
 }
 
-#[tactic(auto, using(crate::proofs::PieceLemmas::extends_same, crate::proofs::PieceLemmas::extends_text))]
+#[tactic(auto, using(crate::proofs::AppendedTexts::extends_same, crate::proofs::AppendedTexts::extends_text))]
 fn put_line(out: &mut Vec<u8>, line: &Line) -> Result<(), NoMemory>
     ensures ok { OnOk result (out.new.items ≡ out.old.items ++ line_text line.now) }
     ensures err { OnErr result (Extends out.old.items out.new.items) }
 {
-    let Ok(()) = add_outcome(out, &line.outcome) else {
-        return Err(NoMemory);
-    };
+    add_outcome(out, &line.outcome)?;
     add_mark(out, line.mark)
 }
 
-/// Appends a line of the transcript: the answer to a command, a space, `@`, the mark, and a line feed.
+/// Appends a line of the transcript: the answer to a command, a space, `@`, the mark, and a line
+/// feed.
 /// Where memory is refused nothing is appended.
-#[tactic(auto, using(crate::proofs::PieceLemmas::begins_with))]
+#[tactic(auto, using(crate::proofs::AppendedTexts::begins_with))]
 pub fn add_line(out: &mut Vec<u8>, line: &Line) -> Result<(), NoMemory>
     ensures ok { OnOk result (out.new.items ≡ out.old.items ++ line_text line.now) }
     ensures err { OnErr result (out.new.items ≡ out.old.items) }
@@ -135,7 +136,8 @@ pub fn add_summary(out: &mut Vec<u8>, fields: u32, maps: u32, changes: u32) -> R
     )
 }
 
-/// Appends the line for a bad script, `bad script line N kind K`. Where memory is refused nothing is appended.
+/// Appends the line for a bad script, `bad script line N kind K`. Where memory is refused nothing is
+/// appended.
 pub fn add_bad_line(out: &mut Vec<u8>, number: u32, kind: u32) -> Result<(), NoMemory>
     ensures ok { OnOk result (out.new.items ≡ out.old.items ++ bad_line_text number kind) }
     ensures err { OnErr result (out.new.items ≡ out.old.items) }
@@ -168,7 +170,8 @@ pub fn add_too_long(out: &mut Vec<u8>, limit: u32) -> Result<(), NoMemory>
     )
 }
 
-/// Appends the line that names the words of the command line. Where memory is refused nothing is appended.
+/// Appends the line that names the words of the command line. Where memory is refused nothing is
+/// appended.
 pub fn add_usage(out: &mut Vec<u8>) -> Result<(), NoMemory>
     ensures ok { OnOk result (out.new.items ≡ out.old.items ++ usage_text) }
     ensures err { OnErr result (out.new.items ≡ out.old.items) }

@@ -1,4 +1,6 @@
 pub mod Lattice
 pub mod Transcript
 pub mod Answers
-pub mod Runs
+pub mod Headline
+pub mod Laws
+pub mod PrivateRuns

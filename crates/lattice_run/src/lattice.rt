@@ -2,19 +2,22 @@
 
 ghost use Rattle.std.specs.Prelude.{◌≡◌, ◌≢◌, ℕ, List, ◌+◌, ◌*◌, ◌-◌, ◌^◌, ◌<◌, ◌≤◌, ◌↔◌, length, IsTrue, IfOk, OnErr, IfSome, IfNone, IfErr, All, slice_get, codes, decimal, ◌++◌};
 ghost use Rattle.std.specs.Ordering.{nat_cmp};
-ghost use Rattle.alg_model.specs.Coefficients.{IsCharacteristic, residues};
+ghost use Rattle.alg_model.specs.Coefficients.{residues};
 ghost use Rattle.alg_model.specs.Factors.{IsIrreducible, IsLeastFactor};
 ghost use Rattle.lat_script.specs.declared.replies.Reply.{Reply};
-ghost use Rattle.lattice_run.specs.Lattice.{opening, field_named, prime_field, map_count, FieldRow, IsLattice, IsFirstTooLarge, IsWellFormed, IsMalformed, AnswersTakenName, Declares};
+ghost use Rattle.lattice_run.specs.Lattice.{IsInTable, opening, field_named, prime_field, map_count, FieldRow, IsLattice, IsFirstTooLarge, IsWellFormed, IsMalformed, AnswersTakenName, Declares};
 
 use ff_factor::{Verdict, judge};
-use ff_poly::{CHARACTERISTICS, MAX_DEGREE, Poly, Prime};
+use ff_poly::{CHARACTERISTICS, Poly, Prime};
 use lat_script::{Digits, FieldName, NoMemory, Reply, StepRefusal};
 use std::alloc::Global;
 use std::marker::Model;
 
 /// The most fields of a lattice.
 pub const MAX_FIELDS: usize = 200;
+
+/// The largest degree of a field.
+pub const TOP_DEGREE: usize = 24;
 
 /// A field of the lattice: its name and its polynomial.
 #[derive(Drop)]
@@ -28,13 +31,18 @@ impl Model for Row {
 
     ghost Value = { FieldRow };
 
-    ghost view = { λ row. record { name = row.name; characteristic = row.polynomial.prime; polynomial = row.polynomial.coefficients } };
+    ghost view = { λ row. record {
+      name = row.name;
+      characteristic = row.polynomial.prime;
+      polynomial = row.polynomial.coefficients;
+    } };
 }
 
 impl Row {
     // The reply where a polynomial is declared under the name of this field, of this number.
     fn named_reply(&self, number: u32, polynomial: &Poly) -> Reply
-        ensures { AnswersTakenName self.now polynomial.now.prime polynomial.now.coefficients number result }
+        ensures { AnswersTakenName self.now polynomial.now.prime polynomial.now.coefficients
+            number result }
     {
         let same = self.polynomial.prime().number() == polynomial.prime().number()
             && self.polynomial.coefficients() == polynomial.coefficients();
@@ -49,8 +57,8 @@ impl Row {
     }
 }
 
-/// The fields of the lattice, by their numbers: the prime fields first, then fields of degree 2 to `MAX_DEGREE`, no two of
-/// one name, at most `MAX_FIELDS`.
+/// The fields of the lattice, by their numbers: the prime fields first, then fields of degree 2 to
+/// `TOP_DEGREE`, no two of one name, at most `MAX_FIELDS`.
 #[derive(Drop)]
 pub struct Lattice {
     rows: Vec<Row>,
@@ -67,41 +75,33 @@ impl Model for Lattice {
     ghost invariant = { λ lattice. IsLattice lattice.rows.items };
 }
 
-/// Every lattice of a run is one of fields: the prime fields are one, and declaring keeps it so.
-pub fn lattices_hold_fields()
-    ensures opening { IsLattice opening }
-    ensures declared { (rows new : List FieldRow) (name : List ℕ) (p : ℕ) (f : List ℕ) (reply : Reply) → IsLattice rows
-        → Declares rows name p f reply new → IsLattice new }
-{}
-
 // The field of p elements.
 fn prime_row(alloc: Global, p: u32) -> Result<Row, NoMemory>
-    requires { IsCharacteristic p }
+    requires { IsInTable p }
     ensures { IfOk result (λ row. row ≡ prime_field p) }
 {
     let prime = Prime::of(p).unwrap();
     let polynomial = Poly::of_slice(prime, &[0, 1]).unwrap();
-    match format!(in alloc; "F{p}") {
-        Ok(text) => Ok(Row {
-            name: FieldName::declared(text.as_str()).unwrap(),
-            polynomial,
-        }),
-        Err(_) => Err(NoMemory),
-    }
+    let name = format!(in alloc; "F{p}")?;
+    Ok(Row {
+        name: FieldName::declared(name.as_str()).unwrap(),
+        polynomial,
+    })
 }
 
-// The place of the first number that isn't below p.
-fn first_too_large(p: Prime, numbers: &[u8]) -> Option<usize>
-    ensures found { IfSome result (IsFirstTooLarge p numbers.now) }
-    ensures none { IfNone result (All (λ a. a < p) numbers.now) }
+// The place of the first number that isn't below p, of numbers with such a one.
+fn first_too_large(p: Prime, numbers: &[u8]) -> usize
+    requires { ¬ All (λ a. a < p) numbers.now }
+    ensures { IsFirstTooLarge p numbers.now result }
 {
     let p = p.number();
-    numbers.iter().position(|number| *number >= p)
+    numbers.iter().position(|number| *number >= p).unwrap()
 }
 
 // The polynomial that is declared, or the refusal of one that is malformed.
 fn well_formed(p: u32, digits: &Digits) -> Result<Poly, StepRefusal>
-    ensures well_formed { IfOk result (λ f. IsWellFormed p digits.now × (f ≡ record { prime = p; coefficients = digits.now })) }
+    ensures well_formed { IfOk result (λ f. IsWellFormed p digits.now
+        × (f ≡ record { prime = p; coefficients = digits.now })) }
     ensures malformed { IfErr result (IsMalformed p digits.now) }
 {
     let numbers = digits.numbers();
@@ -109,22 +109,17 @@ fn well_formed(p: u32, digits: &Digits) -> Result<Poly, StepRefusal>
         return Err(StepRefusal::NotInTable(p));
     };
     let degree = numbers.len() - 1;
-    if degree < 2 {
+    if degree < 2 || degree > TOP_DEGREE {
         return Err(StepRefusal::DegreeOutOfRange(degree as u32));
     }
-    if degree > MAX_DEGREE {
-        return Err(StepRefusal::DegreeOutOfRange(degree as u32));
-    }
-    if let Some(place) = first_too_large(prime, numbers) {
+    let Some(polynomial) = Poly::of_slice(prime, numbers) else {
+        let place = first_too_large(prime, numbers);
         return Err(StepRefusal::CoefficientTooLarge(place as u32));
-    }
+    };
     if numbers[degree] != 1 {
         return Err(StepRefusal::NotMonic);
     }
-    match Poly::of_slice(prime, numbers) {
-        Some(polynomial) => Ok(polynomial),
-        None => unreachable!(),
-    }
+    Ok(polynomial)
 }
 
 // The least factor of a polynomial that can be declared; None where it is irreducible.
@@ -132,7 +127,8 @@ fn least_factor(f: &Poly) -> Option<Poly>
     requires { IsWellFormed f.now.prime f.now.coefficients }
     ensures irreducible { IfNone result (IsIrreducible (residues f.now.prime) f.now.coefficients) }
     ensures prime { IfSome result (λ g. g.prime ≡ f.now.prime) }
-    ensures factor { IfSome result (λ g. IsLeastFactor (residues f.now.prime) nat_cmp f.now.coefficients g.coefficients) }
+    ensures factor { IfSome result (λ g.
+        IsLeastFactor (residues f.now.prime) nat_cmp f.now.coefficients g.coefficients) }
 {
     match judge(f) {
         Verdict::Irreducible(_) => None,
@@ -150,9 +146,7 @@ impl Lattice {
     {
         let mut rows = Vec::new(alloc);
         for p in &CHARACTERISTICS {
-            if rows.push(prime_row(alloc, *p)?).is_err() {
-                return Err(NoMemory);
-            }
+            rows.push(prime_row(alloc, *p)?)?;
         }
         Ok(Lattice { rows })
     }
@@ -180,7 +174,8 @@ impl Lattice {
 
     /// Declares a field of this characteristic and polynomial under this name.
     pub fn declare(&mut self, name: &FieldName, p: u32, digits: &Digits) -> Result<Reply, NoMemory>
-        ensures declared { IfOk result (λ reply. Declares self.old name.now p digits.now reply self.new) }
+        ensures declared { IfOk result (λ reply.
+            Declares self.old name.now p digits.now reply self.new) }
         ensures memory { OnErr result (self.new ≡ self.old) }
     {
         let polynomial = match well_formed(p, digits) {
@@ -204,12 +199,10 @@ impl Lattice {
             name: name.copy(),
             polynomial,
         };
-        match self.rows.push(row) {
-            Ok(()) => Ok(Reply::Declared {
-                number,
-                already: false,
-            }),
-            Err(_) => Err(NoMemory),
-        }
+        self.rows.push(row)?;
+        Ok(Reply::Declared {
+            number,
+            already: false,
+        })
     }
 }

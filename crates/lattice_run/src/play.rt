@@ -16,7 +16,8 @@ fn play_command(
     mark: u32,
     out: &mut Vec<u8>,
 ) -> Result<(), NoMemory>
-    ensures { OnOk result (PlaysOne lattice.old mark command.now lattice.new out.old.items out.new.items) }
+    ensures { OnOk result (PlaysOne lattice.old mark command.now lattice.new
+        out.old.items out.new.items) }
 {
     match command {
         Command::Field { name, p, poly } => {

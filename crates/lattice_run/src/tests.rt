@@ -1,8 +1,10 @@
-//! Runs over memory: the words, the source and the sink of each, and the status and the bytes that come of it.
+//! Runs over memory: the words, the source and the sink of each, and the status and the bytes that
+//! come of it.
 ghost use Rattle.std.specs.Prelude.{◌≤◌};
 
 use crate::run_plain;
-use lat_io::{MemorySink, MemorySource};
+use crate::status::{BAD_SCRIPT, DONE, NO_COMMAND, READ_FAILED, WRITE_FAILED};
+use lat_io::{MemorySink, MemorySource, StdSink, StdSource, read_all};
 use std::alloc::Global;
 use std::process::Abort;
 use std::test::Fail;
@@ -100,7 +102,8 @@ fn expect_read(
     Ok(())
 }
 
-// Plays one declaration into a sink of this room that takes such pieces, whose calls of these numbers fail.
+// Plays one declaration into a sink of this room that takes such pieces, whose calls of these
+// numbers fail.
 fn expect_write(
     rt: &impl Abort,
     alloc: Global,
@@ -126,22 +129,22 @@ fn plays_scripts(rt: HostRuntime) -> Result<(), Fail> {
         &rt,
         alloc,
         b"lattice 1\n",
-        0,
+        DONE,
         b"summary fields 11 maps 11 changes 0\n",
     )?;
-    expect_solo(&rt, alloc, QUADRATIC, 0, QUADRATIC_TEXT)?;
+    expect_solo(&rt, alloc, QUADRATIC, DONE, QUADRATIC_TEXT)?;
     expect_solo(
         &rt,
         alloc,
         b"lattice 1\nfield K 2 1,0,1,0,1\n",
-        0,
+        DONE,
         b"refused 6 1,1,1 @0\nsummary fields 11 maps 11 changes 1\n",
     )?;
     expect_solo(
         &rt,
         alloc,
         b"lattice 1\nfield K 3 2,0,0,1\n",
-        0,
+        DONE,
         b"refused 6 2,1 @0\nsummary fields 11 maps 11 changes 1\n",
     )
 }
@@ -153,50 +156,104 @@ fn plays_more_scripts(rt: HostRuntime) -> Result<(), Fail> {
         &rt,
         alloc,
         b"lattice 1\nfield K 5 1,0,1\n",
-        0,
+        DONE,
         b"refused 6 2,1 @0\nsummary fields 11 maps 11 changes 1\n",
     )?;
     expect_solo(
         &rt,
         alloc,
         b"lattice 1\nfield K 2 1,1,1\nfield K 2 1,1,1\nfield K 2 1,1,0,1\n",
-        0,
+        DONE,
         b"ok field 11 @0\nok field 11 already @1\nrefused 5 11 @2\nsummary fields 12 maps 13 changes 3\n",
     )?;
     expect_solo(
         &rt,
         alloc,
         b"lattice 1\nfield K 2",
-        3,
+        BAD_SCRIPT,
         b"bad script line 2 kind 3\n",
     )?;
-    expect_solo(&rt, alloc, b"", 3, b"bad script line 1 kind 1\n")
+    expect_solo(&rt, alloc, b"", BAD_SCRIPT, b"bad script line 1 kind 1\n")
 }
 
 #[test]
 fn refuses_other_words(rt: HostRuntime) -> Result<(), Fail> {
     let alloc = rt.alloc();
-    expect_usage(&rt, alloc, &["--help"], 1000, 2, USAGE)?;
-    expect_usage(&rt, alloc, &["solo", "x"], 1000, 2, USAGE)?;
-    expect_usage(&rt, alloc, &[], 1000, 2, USAGE)?;
-    expect_usage(&rt, alloc, &[""], 1000, 2, USAGE)?;
-    expect_usage(&rt, alloc, &["--help"], 3, 5, b"usa")
+    expect_usage(&rt, alloc, &["--help"], 1000, NO_COMMAND, USAGE)?;
+    expect_usage(&rt, alloc, &["solo", "x"], 1000, NO_COMMAND, USAGE)?;
+    expect_usage(&rt, alloc, &[], 1000, NO_COMMAND, USAGE)?;
+    expect_usage(&rt, alloc, &[""], 1000, NO_COMMAND, USAGE)?;
+    expect_usage(&rt, alloc, &["--help"], 3, WRITE_FAILED, b"usa")
 }
 
 #[test]
 fn meets_failing_sources(rt: HostRuntime) -> Result<(), Fail> {
     let alloc = rt.alloc();
-    expect_read(&rt, alloc, 1, &[], 0, QUADRATIC_TEXT)?;
-    expect_read(&rt, alloc, 100, &[1], 4, b"")?;
-    expect_read(&rt, alloc, 1, &[3], 4, b"")?;
+    expect_read(&rt, alloc, 1, &[], DONE, QUADRATIC_TEXT)?;
+    expect_read(&rt, alloc, 100, &[1], READ_FAILED, b"")?;
+    expect_read(&rt, alloc, 1, &[3], READ_FAILED, b"")?;
     // after the last byte
-    expect_read(&rt, alloc, 100, &[2], 4, b"")
+    expect_read(&rt, alloc, 100, &[2], READ_FAILED, b"")?;
+    // after the end, where nothing is read
+    expect_read(&rt, alloc, 100, &[3], DONE, QUADRATIC_TEXT)
+}
+
+// After a read fault nothing more is read: what is left begins where the last read that succeeded
+// ended.
+#[test]
+fn reads_no_further_after_a_fault(rt: HostRuntime) -> Result<(), Fail> {
+    let alloc = rt.alloc();
+    let solo = words(alloc, &["solo"])?;
+    let mut source = source(alloc, QUADRATIC, 10, &[2])?;
+    let mut sink = sink(alloc, 1000, 100, &[])?;
+    assert_eq!(rt;
+        run_plain(alloc, &solo, &mut source, &mut sink),
+        READ_FAILED
+    );
+    assert_eq!(rt;
+        read_all(alloc, &mut source, 100)?.as_slice(),
+        &QUADRATIC[10..]
+    );
+    Ok(())
+}
+
+// The fields 11 to 199 are declared, and for one more there is no room.
+#[test]
+fn fills_the_lattice(rt: HostRuntime) -> Result<(), Fail> {
+    let alloc = rt.alloc();
+    let mut script = Vec::from_slice(alloc, b"lattice 1\n")?;
+    let mut text = Vec::new(alloc);
+    for n in 11..200u32 {
+        script.extend_from_slice(format!(in alloc; "field K{n} 2 1,1,1\n")?.as_bytes())?;
+        text.extend_from_slice(format!(in alloc; "ok field {} @{}\n", n, n - 11)?.as_bytes())?;
+    }
+    script.extend_from_slice(b"field L 2 1,1,1\n")?;
+    text.extend_from_slice(b"refused 7 200 1 @189\nsummary fields 200 maps 389 changes 190\n")?;
+    let solo = words(alloc, &["solo"])?;
+    let source = source(alloc, &script, 4096, &[])?;
+    let sink = sink(alloc, 4096, 4096, &[])?;
+    expect(&rt, &solo, source, sink, alloc, DONE, &text);
+    Ok(())
+}
+
+#[test]
+fn runs_over_std(rt: HostRuntime) -> Result<(), Fail> {
+    let alloc = rt.alloc();
+    let solo = words(alloc, &["solo"])?;
+    let mut written = Vec::new(alloc);
+    let mut sink = StdSink::new(&mut written);
+    assert_eq!(rt;
+        run_plain(alloc, &solo, &mut StdSource::new(QUADRATIC), &mut sink),
+        DONE
+    );
+    assert_eq!(rt; written.as_slice(), QUADRATIC_TEXT);
+    Ok(())
 }
 
 #[test]
 fn meets_failing_sinks(rt: HostRuntime) -> Result<(), Fail> {
     let alloc = rt.alloc();
-    expect_write(&rt, alloc, 1000, 1, &[], 0, QUADRATIC_TEXT)?;
-    expect_write(&rt, alloc, 10, 100, &[], 5, b"ok field 1")?;
-    expect_write(&rt, alloc, 1000, 5, &[2], 5, b"ok fi")
+    expect_write(&rt, alloc, 1000, 1, &[], DONE, QUADRATIC_TEXT)?;
+    expect_write(&rt, alloc, 10, 100, &[], WRITE_FAILED, b"ok field 1")?;
+    expect_write(&rt, alloc, 1000, 5, &[2], WRITE_FAILED, b"ok fi")
 }

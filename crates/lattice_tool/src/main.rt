@@ -2,7 +2,7 @@
 #![tactic(auto)]
 
 use lat_io::{StdSink, StdSource};
-use lattice_run::run_plain;
+use lattice_run::{run_plain, status};
 use std::alloc::{AllocError, Global};
 use std::process::ExitCode;
 use std::{env, io};
@@ -16,12 +16,12 @@ fn words_of(alloc: Global, arguments: env::Args) -> Option<Vec<String>> {
     Some(words)
 }
 
-// The status where the words aren't handed out: 6 for want of memory, else 8.
+// The status where the words aren't handed out.
 fn status_of(error: &io::Error) -> u8 {
     if error.kind() == io::ErrorKind::OutOfMemory {
-        6
+        status::NO_MEMORY
     } else {
-        8
+        status::NO_WORDS
     }
 }
 
@@ -31,7 +31,7 @@ fn main(rt: HostRuntime) -> ExitCode {
         Err(error) => return ExitCode::from(status_of(&error)),
     };
     let Some(words) = words_of(rt.alloc(), arguments) else {
-        return ExitCode::from(6);
+        return ExitCode::from(status::NO_MEMORY);
     };
     let mut source = StdSource::new(rt.reader());
     let mut sink = StdSink::new(io::writer(&rt));

@@ -8,5 +8,5 @@ pub loop-written-preserved : goal.loop-written-preserved
 loop-written-preserved g c = record {
   within = search rules;
   appended = subst (Appends _ _) (take-append-rest _ _ _) (Appends-trans _ _ _ _ _ c.loop-written.invariant.appended c.in_ok-written.ensures.appended);
-  never_falls = search rules;
+  unfailed = search rules;
 }

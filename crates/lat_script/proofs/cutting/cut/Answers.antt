@@ -1,6 +1,6 @@
 -- The cut is at the first such byte.
 use Rattle.std.proofs.Common.{◌==◌, sym, ◌∙◌}
-use Rattle.lat_script.proofs.CutLemmas.{cut_none, cut_some}
+use Rattle.lat_script.proofs.LinesAndWords.{cut_none, cut_some}
 use Rattle.lat_script.proofs.cutting.cut.Goals as goal
 
 pub returns-in-None : goal.returns-in-None

@@ -1,7 +1,7 @@
 -- A text with a byte has a first line.
 use Rattle.std.proofs.Common.{ap, ◌∙◌}
 use Rattle.lat_script.specs.Grammar.{lines_of}
-use Rattle.lat_script.proofs.CutLemmas.{lines_none, first_line_taken, empty_from_test, some_from_test}
+use Rattle.lat_script.proofs.LinesAndWords.{lines_none, first_line_taken, empty_from_test, some_from_test}
 use Rattle.lat_script.proofs.cutting.first_line.Goals as goal
 
 pub returns-then-is_empty : goal.returns-then-is_empty

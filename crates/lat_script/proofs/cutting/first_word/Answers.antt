@@ -1,7 +1,7 @@
 -- A text that doesn't begin with a space begins with its first word.
 use Rattle.std.proofs.Common.{sym, ap, ◌∙◌, arith}
 use Rattle.lat_script.specs.Grammar.{words_of}
-use Rattle.lat_script.proofs.CutLemmas.{words_none, first_word_taken, empty_from_test, some_from_test}
+use Rattle.lat_script.proofs.LinesAndWords.{words_none, first_word_taken, empty_from_test, some_from_test}
 use Rattle.lat_script.proofs.cutting.first_word.Goals as goal
 
 pub returns-then-is_empty : goal.returns-then-is_empty

@@ -1,6 +1,6 @@
 -- A name has at most as many bytes as the array holds.
 use Rattle.std.proofs.Common.{zero-add}
-use Rattle.lat_script.proofs.NameLemmas.{name_fits}
+use Rattle.lat_script.proofs.NameLengths.{name_fits}
 use Rattle.lat_script.proofs.names.name_of.Goals as goal
 
 pub unwrap-requires : goal.unwrap-requires

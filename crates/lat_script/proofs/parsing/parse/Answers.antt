@@ -1,5 +1,5 @@
 -- A text has one reading, and that is what was read.
-use Rattle.lat_script.proofs.GrammarLemmas.{script_read, fault_read}
+use Rattle.lat_script.proofs.ParsedLines.{script_read, fault_read}
 use Rattle.lat_script.proofs.parsing.parse.Goals as goal
 
 pub returns-clause-every_script : goal.returns-clause-every_script

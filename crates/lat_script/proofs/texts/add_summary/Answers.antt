@@ -1,7 +1,7 @@
 -- The pieces are the line.
 use Rattle.std.proofs.Common.{◌++◌, ap}
 use Rattle.std.proofs.lemmas.Result.{IfOk-equal}
-use Rattle.lat_script.proofs.PieceLemmas.{summary_pieces}
+use Rattle.lat_script.proofs.AppendedTexts.{summary_pieces}
 use Rattle.lat_script.proofs.texts.add_summary.Goals as goal
 
 pub returns-clause-ok : goal.returns-clause-ok

@@ -2,11 +2,12 @@
 use Rattle.std.proofs.Common.{◌∙◌, ap}
 use Rattle.std.specs.Prelude.{Err}
 use Rattle.lattice_run.specs.Answers.Answers.{played}
-use Rattle.lattice_run.proofs.Running.{answers_bad, script_fits}
+use Rattle.lat_script.proofs.LinesOfScripts.{spelled_is_text}
+use Rattle.lattice_run.proofs.Running.{answers_bad}
 use Rattle.lattice_run.proofs.run.output_of.Goals as goal
 
 pub play-requires : goal.play-requires
-play-requires c = script_fits c.args.input.now c.in-Ok.script c.in-Ok.ensures.script
+play-requires c = (spelled_is_text c.args.input.now c.in-Ok.script c.in-Ok.ensures.script).few
 
 pub returns-in_ok-text-in-Ok : goal.returns-in_ok-text-in-Ok
 returns-in_ok-text-in-Ok c = λ words solo.

@@ -1,12 +1,12 @@
 -- The line is passed over, or is the header.
 use Rattle.std.proofs.Common.{refl, sym, ap, ◌∙◌}
-use Rattle.lat_script.specs.Grammar.{State, Passed, Header, after}
-use Rattle.lat_script.proofs.GrammarLemmas.{says_passed, says_header}
+use Rattle.lat_script.specs.Grammar.{State, PassedOver, Header, after}
+use Rattle.lat_script.proofs.LineMeanings.{says_passed, says_header}
 use Rattle.lat_script.proofs.parsing.Reader.take.Goals as goal
 
 pub returns-then-is_passed_over : goal.returns-then-is_passed_over
 returns-then-is_passed_over c =
-    (Passed, says_passed c.args.self.now c.args.line.now c.if-too_long.false (c.is_passed_over.ensures.0 c.if-is_passed_over.true), refl)
+    (PassedOver, says_passed c.args.self.now c.args.line.now c.if-too_long.false (c.is_passed_over.ensures.0 c.if-is_passed_over.true), refl)
 
 pub returns : goal.returns
 returns c = (

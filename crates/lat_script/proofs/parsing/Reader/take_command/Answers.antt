@@ -1,7 +1,7 @@
 -- The line is a command, or one too many.
 use Rattle.std.proofs.Common.{length, ap, arith}
-use Rattle.lat_script.specs.Grammar.{State, Run, after}
-use Rattle.lat_script.proofs.GrammarLemmas.{says_too_many, says_command}
+use Rattle.lat_script.specs.Grammar.{State, OfCommand, after}
+use Rattle.lat_script.proofs.LineMeanings.{says_too_many, says_command}
 use Rattle.lat_script.proofs.parsing.Reader.take_command.Goals as goal
 
 pub returns-then-full : goal.returns-then-full
@@ -11,8 +11,8 @@ returns-then-full c =
 
 pub returns : goal.returns
 returns c = (
-  Run c.in-Some.command,
+  OfCommand c.in-Some.command,
   says_command c.args.self.now c.args.line.now c.requires.fits c.requires.begun c.in-Some.command c.in-Some.ensures
       (omega (arith, ap (λ (s : State). length s.prologue) c.self.view_is, ap length c.items.ensures)),
-  rw c.in-Ok.ensures.ok (ap (λ (s : State). after s (Run c.in-Some.command)) c.self.view_is),
+  rw c.in_ok-push.ensures.ok (ap (λ (s : State). after s (OfCommand c.in-Some.command)) c.self.view_is),
 )

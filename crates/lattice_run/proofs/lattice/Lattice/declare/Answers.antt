@@ -26,3 +26,10 @@ invariant_of-self c =
     (made_field c.copy.result c.args.p c.args.digits.now c.in-Ok.polynomial c.in-Ok.ensures.well_formed c.in_default-least_factor.ensures.irreducible)
     (ap (λ rows. field_named rows c.copy.result) c.self.view_is ∙ ap (λ name. field_named c.args.self.now name) c.copy.ensures ∙ sym c.field_named.ensures ∙ c.in_default.is)
     (search (rules, c.len.ensures, c.if-len-ge-MAX_FIELDS.false))
+
+pub invariant_of-self-2 : goal.invariant_of-self-2
+invariant_of-self-2 c =
+    lattice_push_if _ _ _ _ c.push.ensures.items c.self.invariant
+    (made_field c.copy.result c.args.p c.args.digits.now c.in-Ok.polynomial c.in-Ok.ensures.well_formed c.in_default-least_factor.ensures.irreducible)
+    (ap (λ rows. field_named rows c.copy.result) c.self.view_is ∙ ap (λ name. field_named c.args.self.now name) c.copy.ensures ∙ sym c.field_named.ensures ∙ c.in_default.is)
+    (search (rules, c.len.ensures, c.if-len-ge-MAX_FIELDS.false))

@@ -1,1 +1,0 @@
--- One line on, and what comes at the end.

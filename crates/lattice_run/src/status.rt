@@ -1,0 +1,23 @@
+//! The exit statuses of the program.
+ghost use Rattle.std.specs.Prelude.{◌≡◌};
+
+/// The command was done, and its output written.
+pub const DONE: u8 = 0;
+
+/// The words name no command; the usage line was written.
+pub const NO_COMMAND: u8 = 2;
+
+/// The input is too long or spells no script; its fault line was written.
+pub const BAD_SCRIPT: u8 = 3;
+
+/// A read failed; nothing was written.
+pub const READ_FAILED: u8 = 4;
+
+/// A write failed; a front of what was to be written was.
+pub const WRITE_FAILED: u8 = 5;
+
+/// There was no memory; nothing was written.
+pub const NO_MEMORY: u8 = 6;
+
+/// The system didn't hand out the words; nothing was written. No run answers this.
+pub const NO_WORDS: u8 = 8;
