@@ -9,8 +9,8 @@ use Rattle.alg_model.specs.Coefficients.{Ops}
 use Rattle.alg_model.specs.Polynomials.{sum, scale}
 use Rattle.alg_rings.proofs.Lists.{length_scale}
 use Rattle.alg_model.specs.Matrices.{Matrix, column_at, entry, zero_column, unit_column, combination, matrix_apply, matrix_product, identity_matrix}
-use Rattle.alg_linear.specs.InnerGrids.{total}
-use Rattle.alg_linear.specs.InnerGrids.{delta}
+use Rattle.alg_linear.specs.PrivateGrids.{total}
+use Rattle.alg_linear.specs.PrivateGrids.{delta}
 use Rattle.alg_linear.proofs.Grids.{delta_same, delta_other}
 
 -- all columns have n places

@@ -8,9 +8,9 @@ use Rattle.alg_model.specs.Matrices.{Matrix, column_at, entry, IsMatrix, IsInver
 use Rattle.alg_rings.specs.Laws.{IsPropositional}
 use Rattle.alg_rings.proofs.Elements.{Element, element_ops, underlying_injective}
 use Rattle.alg_linear.proofs.Grids
-use Rattle.alg_linear.specs.InnerGrids.{delta, grid_product}
-use Rattle.alg_linear.specs.InnerGrids.{IsReducedTo}
-use Rattle.alg_linear.specs.InnerGrids.{IsTransformed}
+use Rattle.alg_linear.specs.PrivateGrids.{delta, grid_product}
+use Rattle.alg_linear.specs.PrivateGrids.{IsReducedTo}
+use Rattle.alg_linear.specs.PrivateGrids.{IsTransformed}
 use Rattle.alg_linear.proofs.Columns.{length_unit_column, unit_column_at, length_product, length_identity, same_columns}
 use Rattle.alg_linear.proofs.CarrierMatrices
 use Rattle.alg_linear.proofs.MatrixEntries.{entries, product_value, product_from_entries, product_is_identity, identity_product_entries}

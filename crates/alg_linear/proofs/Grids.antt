@@ -5,7 +5,7 @@ use Rattle.std.proofs.lemmas.Bool.{eq-eqb, ne_eqb}
 use Rattle.alg_model.specs.Coefficients.{Ops}
 use Rattle.alg_rings.specs.Laws.{RingLaws}
 use Rattle.alg_rings.proofs.Rings.{mul_zero, zero_mul, mul_one, mul_neg, mul_left_comm}
-use Rattle.alg_linear.specs.InnerGrids.{total, delta, grid_apply, grid_product}
+use Rattle.alg_linear.specs.PrivateGrids.{total, delta, grid_apply, grid_product}
 use Rattle.alg_linear.proofs.Sums.{total_same, total_zero, total_add, total_neg, total_scale, total_scale_right, total_swap, total_single}
 
 pub delta_same : {A : Type 0} (o : Ops A) (i j : ℕ) → i ≡ j → delta o i j ≡ o.one

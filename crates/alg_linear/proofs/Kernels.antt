@@ -7,14 +7,14 @@ use Rattle.alg_model.specs.Fields.{IsRing}
 use Rattle.alg_model.specs.Matrices.{Matrix, entry, zero_column, combination, matrix_apply, matrix_product, identity_matrix, IsColumn, IsMatrix, IsReduction, IsIndependent, IsInKernel, IsKernelBasis}
 use Rattle.alg_rings.specs.Laws.{IsPropositional, RingLaws}
 use Rattle.alg_rings.proofs.Elements.{Element, element_ops, element_laws, underlying_injective}
-use Rattle.alg_linear.specs.InnerElimination.{grid}
-use Rattle.alg_linear.specs.InnerGrids.{total}
+use Rattle.alg_linear.specs.PrivateElimination.{grid}
+use Rattle.alg_linear.specs.PrivateGrids.{total}
 use Rattle.alg_linear.proofs.Sums.{total_same}
-use Rattle.alg_linear.specs.InnerGrids.{delta, grid_apply, grid_product}
+use Rattle.alg_linear.specs.PrivateGrids.{delta, grid_apply, grid_product}
 use Rattle.alg_linear.proofs.Grids.{apply_same}
-use Rattle.alg_linear.specs.InnerGrids.{IsReducedTo}
+use Rattle.alg_linear.specs.PrivateGrids.{IsReducedTo}
 use Rattle.alg_linear.proofs.Solutions
-use Rattle.alg_linear.specs.InnerGrids.{IsTransformed, AreFree, AreKernelColumns}
+use Rattle.alg_linear.specs.PrivateGrids.{IsTransformed, AreFree, AreKernelColumns}
 use Rattle.alg_linear.proofs.Columns.{length_zero_column, zero_column_at, length_combination, same_columns}
 use Rattle.alg_linear.proofs.CarrierMatrices
 use Rattle.alg_linear.proofs.MatrixEntries.{entries, apply_value, apply_valid, product_is_identity, identity_product_entries}

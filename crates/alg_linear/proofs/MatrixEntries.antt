@@ -6,8 +6,8 @@ use Rattle.alg_model.specs.Fields.{IsRing}
 use Rattle.alg_model.specs.Matrices.{Matrix, column_at, entry, matrix_apply, matrix_product, identity_matrix, IsColumn, IsMatrix}
 use Rattle.alg_rings.specs.Laws.{IsPropositional}
 use Rattle.alg_rings.proofs.Elements.{Element, element_ops, element_laws, underlying_injective}
-use Rattle.alg_linear.specs.InnerElimination.{grid}
-use Rattle.alg_linear.specs.InnerGrids.{delta, grid_apply, grid_product}
+use Rattle.alg_linear.specs.PrivateElimination.{grid}
+use Rattle.alg_linear.specs.PrivateGrids.{delta, grid_apply, grid_product}
 use Rattle.alg_linear.proofs.Grids.{apply_same, apply_product}
 use Rattle.alg_linear.proofs.Columns.{column_of_product, length_product, length_identity, same_columns, same_matrices}
 use Rattle.alg_linear.proofs.CarrierMatrices

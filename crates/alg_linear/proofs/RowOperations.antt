@@ -5,9 +5,9 @@ use Rattle.std.proofs.lemmas.Bool.{eq-eqb, ne_eqb, cases_eq}
 use Rattle.alg_model.specs.Coefficients.{Ops}
 use Rattle.alg_rings.specs.Laws.{RingLaws}
 use Rattle.alg_rings.proofs.Rings.{zero_mul, add_zero, add_mul}
-use Rattle.alg_linear.specs.InnerGrids.{total, RowEquivalent}
+use Rattle.alg_linear.specs.PrivateGrids.{total, RowEquivalent}
 use Rattle.alg_linear.proofs.Sums.{total_same, total_add, total_scale}
-use Rattle.alg_linear.specs.InnerGrids.{delta, grid_product}
+use Rattle.alg_linear.specs.PrivateGrids.{delta, grid_product}
 use Rattle.alg_linear.proofs.Grids.{apply_delta, product_assoc, apply_same}
 
 -- r for s and s for r

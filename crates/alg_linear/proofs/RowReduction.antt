@@ -5,7 +5,7 @@ use Rattle.std.proofs.lemmas.List.{get_or_append_left, get_or_push, length_push}
 use Rattle.alg_model.specs.Coefficients.{Ops}
 use Rattle.alg_rings.specs.Laws.{RingLaws}
 use Rattle.alg_rings.proofs.Rings.{mul_zero, zero_mul, add_zero, mul_one}
-use Rattle.alg_linear.specs.InnerGrids.{delta, IsReducedTo}
+use Rattle.alg_linear.specs.PrivateGrids.{delta, IsReducedTo}
 use Rattle.alg_linear.proofs.Grids.{delta_same, delta_other}
 use Rattle.alg_linear.proofs.RowOperations.{swap_rows, scale_row, add_row, swapped, swapped_other, swapped_first, swapped_to_first}
 

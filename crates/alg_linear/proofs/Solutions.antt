@@ -4,12 +4,12 @@ use Rattle.std.proofs.lemmas.Bool.{cases_eq, cases_lt, eq-eqb, ne_eqb, lt-ltb, l
 use Rattle.alg_model.specs.Coefficients.{Ops}
 use Rattle.alg_rings.specs.Laws.{RingLaws}
 use Rattle.alg_rings.proofs.Rings.{mul_zero, zero_mul, mul_one, neg_zero, same_from_difference}
-use Rattle.alg_linear.specs.InnerGrids.{total, IsTransformed, AreFree, AreKernelColumns}
+use Rattle.alg_linear.specs.PrivateGrids.{total, IsTransformed, AreFree, AreKernelColumns}
 use Rattle.alg_linear.proofs.Sums.{total_zero, total_single, total_pair}
-use Rattle.alg_linear.specs.InnerGrids.{delta, grid_apply, grid_product}
+use Rattle.alg_linear.specs.PrivateGrids.{delta, grid_apply, grid_product}
 use Rattle.alg_linear.proofs.Grids.{delta_same, delta_other, apply_same, apply_delta, apply_to_delta, apply_product, apply_zero, zero_apply, apply_add, apply_neg, apply_combination}
-use Rattle.alg_linear.specs.InnerGrids.{RowEquivalent}
-use Rattle.alg_linear.specs.InnerGrids.{IsReducedTo}
+use Rattle.alg_linear.specs.PrivateGrids.{RowEquivalent}
+use Rattle.alg_linear.specs.PrivateGrids.{IsReducedTo}
 
 -- entries of the form and of the transform alone count
 pub transformed_same : {A : Type 0} (o : Ops A) (n m : ℕ) (M E T E' T' : ℕ → ℕ → A) → IsTransformed o n m M E T

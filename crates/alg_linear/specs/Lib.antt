@@ -1,2 +1,2 @@
-pub mod InnerGrids
-pub mod InnerElimination
+pub mod PrivateGrids
+pub mod PrivateElimination

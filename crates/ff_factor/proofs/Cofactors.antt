@@ -17,7 +17,7 @@ use Rattle.alg_divisors.specs.Factorization.{product_of, IsFactorization}
 use Rattle.alg_divisors.proofs.Factorization.{product_middle}
 use Rattle.alg_divisors.proofs.EuclideanPolynomials.{polynomials_euclidean}
 use Rattle.alg_divisors.proofs.PolynomialFactors.{product_of-map}
-use Rattle.ff_factor.specs.InnerSplitting.{IsCofactor}
+use Rattle.ff_factor.specs.PrivateSplitting.{IsCofactor}
 use Rattle.ff_factor.proofs.ListInsertion.{All-insert}
 
 module _ {A : Type 0} {c : Carrier A} (P : IsPropositional c) (F : IsField c) where

@@ -20,7 +20,7 @@ use Rattle.alg_rings.proofs.PolynomialOrder.{order_by_total}
 use Rattle.alg_divisors.proofs.LeastFactors.{least_of_factorization}
 use Rattle.ff_poly.specs.Polynomial.{Polynomial, IsPoly}
 use Rattle.ff_factor.specs.FactorLists.{AreOver, coefficients_of}
-use Rattle.ff_factor.specs.InnerSplitting.{Collects, IsCofactor}
+use Rattle.ff_factor.specs.PrivateSplitting.{Collects, IsCofactor}
 use Rattle.ff_factor.proofs.ListInsertion.{sorted_insert, All-insert, map-insert}
 use Rattle.ff_factor.proofs.Cofactors
 

@@ -31,7 +31,7 @@ use Rattle.ff_poly.specs.Polynomial as poly
 use Rattle.ff_matrix.specs.ModularMatrix.{IsModularMatrix}
 use Rattle.ff_factor.specs.declared.certificates.Cert.{Cert}
 use Rattle.ff_factor.specs.Certificates.{berlekamp_column, berlekamp_matrix, Certifies}
-use Rattle.ff_factor.specs.InnerSplitting.{IsNonzeroKernelColumn}
+use Rattle.ff_factor.specs.PrivateSplitting.{IsNonzeroKernelColumn}
 use Rattle.ff_factor.proofs.Certifying
 use Rattle.ff_factor.proofs.RootsOfPowers
 

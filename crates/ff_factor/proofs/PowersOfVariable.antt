@@ -13,7 +13,7 @@ use Rattle.alg_rings.proofs.CarrierPolynomials
 use Rattle.alg_fields.proofs.Remainders.{remainder_value, remainder_one}
 use Rattle.ff_poly.specs.Polynomial.{Polynomial, IsPoly}
 use Rattle.ff_factor.specs.Certificates.{berlekamp_column}
-use Rattle.ff_factor.specs.InnerSplitting.{IsPowerOfVariable, ArePlacesOfPower, residues_modulo}
+use Rattle.ff_factor.specs.PrivateSplitting.{IsPowerOfVariable, ArePlacesOfPower, residues_modulo}
 use Rattle.ff_factor.proofs.Congruences
 use Rattle.ff_factor.proofs.TimesVariable.{residues_of_zeros}
 

@@ -9,7 +9,7 @@ use Rattle.alg_model.specs.Polynomials.{sum, scale}
 use Rattle.alg_model.specs.Values.{degree, times_x}
 use Rattle.alg_rings.proofs.Lists.{length_scale}
 use Rattle.alg_linear.proofs.Columns.{length_same_sum, same_sum_at, scaled_at, same_columns}
-use Rattle.ff_factor.specs.InnerSplitting.{residues_modulo}
+use Rattle.ff_factor.specs.PrivateSplitting.{residues_modulo}
 
 module _ {A : Type 0} (o : Ops A) (f r : List A) (sizes : length f ≡ length r + 1) where
   abbrev multiple : A

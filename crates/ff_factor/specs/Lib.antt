@@ -1,3 +1,3 @@
 pub mod Certificates
 pub mod FactorLists
-pub mod InnerSplitting
+pub mod PrivateSplitting

@@ -7,7 +7,7 @@ ghost use Rattle.alg_model.specs.Values.{degree, times_x};
 ghost use Rattle.alg_model.specs.Matrices.{IsColumn};
 ghost use Rattle.ff_poly.specs.Polynomial.{IsPoly};
 ghost use Rattle.ff_factor.specs.Certificates.{berlekamp_column, berlekamp_matrix};
-ghost use Rattle.ff_factor.specs.InnerSplitting.{IsPowerOfVariable, ArePlacesOfPower, residues_modulo};
+ghost use Rattle.ff_factor.specs.PrivateSplitting.{IsPowerOfVariable, ArePlacesOfPower, residues_modulo};
 
 use crate::polynomials::variable;
 use arrayvec::ArrayVec;

@@ -7,7 +7,7 @@ ghost use Rattle.alg_model.specs.Factors.{IsMonic, IsIrreducible, IsProperFactor
 ghost use Rattle.alg_divisors.specs.Factorization.{IsFactorization};
 ghost use Rattle.ff_poly.specs.Polynomial.{Polynomial};
 ghost use Rattle.ff_factor.specs.FactorLists.{AreOver, coefficients_of};
-ghost use Rattle.ff_factor.specs.InnerSplitting.{Collects, IsCofactor};
+ghost use Rattle.ff_factor.specs.PrivateSplitting.{Collects, IsCofactor};
 
 use crate::splitting::{Finding, split};
 use arrayvec::ArrayVec;

@@ -9,7 +9,7 @@ ghost use Rattle.ff_poly.specs.Polynomial.{IsPoly};
 ghost use Rattle.ff_matrix.specs.Echelons.{IsEchelonOf};
 ghost use Rattle.alg_fields.specs.Fixed.{IsFixed, less_constant};
 ghost use Rattle.ff_factor.specs.Certificates.{Certifies, berlekamp_matrix};
-ghost use Rattle.ff_factor.specs.InnerSplitting.{IsFinding, IsNonzeroKernelColumn};
+ghost use Rattle.ff_factor.specs.PrivateSplitting.{IsFinding, IsNonzeroKernelColumn};
 
 use crate::Cert;
 use crate::columns::matrix_in_turn;

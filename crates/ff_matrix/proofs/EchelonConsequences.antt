@@ -7,10 +7,10 @@ use Rattle.alg_model.specs.Coefficients.{Carrier, mod_ops, residues}
 use Rattle.alg_model.specs.Fields.{IsRing}
 use Rattle.alg_model.specs.Matrices.{Matrix, column_at, matrix_apply, matrix_product, identity_matrix, IsColumn, IsMatrix, IsIndependent, IsKernelBasis}
 use Rattle.alg_rings.proofs.Residues.{residues_ring}
-use Rattle.alg_linear.specs.InnerGrids
+use Rattle.alg_linear.specs.PrivateGrids
 use Rattle.alg_linear.proofs.Grids
 use Rattle.alg_linear.proofs.Grids.{delta_same, delta_other}
-use Rattle.alg_linear.specs.InnerGrids.{AreFree}
+use Rattle.alg_linear.specs.PrivateGrids.{AreFree}
 use Rattle.alg_linear.proofs.Solutions.{rising_few}
 use Rattle.alg_linear.proofs.Echelons.{form_rows, form_columns}
 use Rattle.alg_linear.proofs.Kernels
@@ -18,7 +18,7 @@ use Rattle.ff_poly.proofs.Characteristics.{characteristic_small}
 use Rattle.ff_matrix.specs.declared.echelon.Echelon.{Echelon}
 use Rattle.ff_matrix.specs.Echelons.{IsEchelonOf}
 use Rattle.ff_matrix.specs.ModularMatrix.{ModularMatrix}
-use Rattle.ff_matrix.specs.InnerRows.{ArePlaces, IsKernelColumn}
+use Rattle.ff_matrix.specs.PrivateRows.{ArePlaces, IsKernelColumn}
 use Rattle.alg_rings.proofs.ResidueFields.{residues_propositional}
 
 -- a number stands at a place of the list, or at none
@@ -86,7 +86,7 @@ module _ (m : ModularMatrix) (e : Echelon) (h : IsEchelonOf m e) where
       apart s t ls lt d = ⊎_elim (λ l. let up : get_or free s 0 < get_or free t 0 = F.rising s t l lt in omega arith)
           (λ l. let up : get_or free t 0 < get_or free s 0 = F.rising t s (omega arith) ls in omega arith) (cases_lt s t)
 
-      at_free : (t s : ℕ) → t < length free → s < length free → get_or (get_or basis t []) (get_or free s 0) 0 ≡ InnerGrids.delta (mod_ops m.prime) t s
+      at_free : (t s : ℕ) → t < length free → s < length free → get_or (get_or basis t []) (get_or free s 0) 0 ≡ PrivateGrids.delta (mod_ops m.prime) t s
       at_free t s lt ls = ⊎_elim
           (λ e. ap (λ k. get_or (get_or basis t []) (get_or free k 0) 0) (sym e) ∙ (column t lt).one ∙ sym (delta_same (mod_ops m.prime) t s e))
           (λ d. (column t lt).zero_elsewhere (get_or free s 0) (apart s t ls lt (λ e. d (sym e))) (λ i li. F.no_pivot i s li ls)

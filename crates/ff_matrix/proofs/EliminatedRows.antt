@@ -10,19 +10,19 @@ use Rattle.alg_model.specs.Matrices.{Matrix, column_at, entry, IsColumn, IsMatri
 use Rattle.alg_rings.proofs.Residues.{residues_ring}
 use Rattle.alg_rings.specs.Laws.{IsPropositional, RingLaws}
 use Rattle.alg_rings.proofs.Elements.{Element, element_ops, element_laws, underlying_injective}
-use Rattle.alg_linear.specs.InnerGrids
+use Rattle.alg_linear.specs.PrivateGrids
 use Rattle.alg_linear.proofs.RowOperations
 use Rattle.alg_linear.proofs.RowReduction
 use Rattle.alg_linear.proofs.RowReduction.{reduced_same}
 use Rattle.alg_linear.proofs.Solutions.{transformed_from_augmented, transformed_same}
 use Rattle.alg_linear.proofs.CarrierMatrices.{delta_value}
-use Rattle.alg_linear.specs.InnerElimination.{IsEliminated, row_entries}
+use Rattle.alg_linear.specs.PrivateElimination.{IsEliminated, row_entries}
 use Rattle.alg_linear.proofs.MatrixEntries.{entries}
 use Rattle.alg_linear.proofs.Echelons.{reduction_lists}
 use Rattle.ff_matrix.specs.declared.TheConstants.{MAX_WIDTH}
 use Rattle.ff_poly.proofs.Characteristics.{characteristic_small}
 use Rattle.ff_matrix.specs.ModularMatrix.{IsModularMatrix}
-use Rattle.ff_matrix.specs.InnerRows.{AreRows, IsAugmented, Eliminates}
+use Rattle.ff_matrix.specs.PrivateRows.{AreRows, IsAugmented, Eliminates}
 use Rattle.alg_rings.proofs.ResidueFields.{residues_propositional}
 
 -- the columns of rows, from start on
@@ -63,12 +63,12 @@ reduction_from_rows p h m wm start rows pivots fits v a eliminates =
     (transformed_from_augmented L n width M X Y
     (λ i j li lj. underlying_injective P _ _ (a.left i j li lj))
     (λ i l li ll. underlying_injective P _ _ (a.right i l li ll ∙ sym (delta_value R i l)))
-    (let Q : ℕ → Type 0 = λ k. InnerGrids.RowEquivalent B k X Y in subst Q a.count g.equivalent))
+    (let Q : ℕ → Type 0 = λ k. PrivateGrids.RowEquivalent B k X Y in subst Q a.count g.equivalent))
     (λ i j li lj. underlying_injective P _ _ (block_entry p rows 0 width i j (omega (arith, count)) lj ∙ ap (λ k. get_or (get_or rows i []) k 0) (omega arith)))
     (λ i j li lj. underlying_injective P _ _ (block_entry p rows width (length rows) i j (omega (arith, count)) (omega (arith, count)))))
     (reduced_same B n width pivots Y (entries R form wf)
     (λ i j li lj. underlying_injective P _ _ (block_entry p rows 0 width i j (omega (arith, count)) lj ∙ ap (λ k. get_or (get_or rows i []) k 0) (omega arith)))
-    (let Q : ℕ → Type 0 = λ k. InnerGrids.IsReducedTo B k width pivots Y in subst Q a.count g.reduced))
+    (let Q : ℕ → Type 0 = λ k. PrivateGrids.IsReducedTo B k width pivots Y in subst Q a.count g.reduced))
   where
     c : Carrier ℕ
     c = residues p

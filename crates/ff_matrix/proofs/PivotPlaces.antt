@@ -3,10 +3,10 @@ use Rattle.std.proofs.Common.{◌≡◌, ◌≢◌, ◌⊎◌, ℕ, ◌+◌, ◌
 use Rattle.std.proofs.lemmas.Bool.{cases_eq, cases_lt}
 use Rattle.std.proofs.lemmas.List.{length-set, get_or-set_same, get_or-set_other, length-replicate, get_or_append_left, get_or_push, length_push, get_or-map}
 use Rattle.std.proofs.lemmas.List.Elements.{All-set, All-replicate}
-use Rattle.alg_linear.specs.InnerGrids.{AreFree}
+use Rattle.alg_linear.specs.PrivateGrids.{AreFree}
 use Rattle.alg_model.specs.Coefficients.{mod_ops, residues}
 use Rattle.alg_model.specs.Matrices.{Matrix, column_at, IsMatrix}
-use Rattle.ff_matrix.specs.InnerRows.{ArePlaces, IsKernelColumn}
+use Rattle.ff_matrix.specs.PrivateRows.{ArePlaces, IsKernelColumn}
 use Rattle.ff_matrix.proofs.RowPlaces.{zeros_at}
 
 -- the first i values stand at their places among n, and the other places are zero

@@ -17,7 +17,7 @@ use Rattle.alg_linear.proofs.Columns.{sum_scale_by_places}
 use Rattle.alg_linear.proofs.RowOperations.{swapped, swapped_first, swapped_below}
 use Rattle.alg_linear.proofs.Elimination.{IsPivotStep, eliminated_start, eliminated_with_pivot, eliminated_without_pivot, swap_at}
 use Rattle.ff_matrix.specs.declared.TheConstants.{MAX_WIDTH}
-use Rattle.ff_matrix.specs.InnerRows.{AreRows, IsCleared, Eliminates}
+use Rattle.ff_matrix.specs.PrivateRows.{AreRows, IsCleared, Eliminates}
 
 -- the places of ys below i are done, the others are those of xs, and all are below p
 pub record AreDone (p : ℕ) (done : ℕ → ℕ) (xs ys : List ℕ) (i : ℕ) : Type 0 where

@@ -1,3 +1,3 @@
 pub mod Echelons
 pub mod ModularMatrix
-pub mod InnerRows
+pub mod PrivateRows

@@ -5,7 +5,7 @@ ghost use Rattle.alg_model.specs.Coefficients.{residues, mod_ops};
 ghost use Rattle.alg_model.specs.Matrices.{entry, IsColumn};
 ghost use Rattle.ff_matrix.specs.Echelons.{IsEchelonOf};
 ghost use Rattle.ff_matrix.specs.ModularMatrix.{IsModularMatrix};
-ghost use Rattle.ff_matrix.specs.InnerRows.{AreRows, IsAugmented};
+ghost use Rattle.ff_matrix.specs.PrivateRows.{AreRows, IsAugmented};
 
 use crate::elimination::{Row, reduce};
 use crate::{Column, ColumnList, MAX_WIDTH, Matrix};

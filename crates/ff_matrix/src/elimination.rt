@@ -2,7 +2,7 @@
 ghost use Rattle.std.specs.Prelude.{◌≡◌, ◌≢◌, ℕ, ◌+◌, ◌<◌, ◌≤◌, List, [], ◌∷◌, ◌++◌, length, All, IsNone, IfSome, slice_index, slice_index_or, slice_set};
 ghost use Rattle.alg_model.specs.Coefficients.{residues, mod_ops, IsCharacteristic};
 ghost use Rattle.alg_model.specs.Matrices.{IsColumn};
-ghost use Rattle.ff_matrix.specs.InnerRows.{AreRows, IsCleared, Eliminates};
+ghost use Rattle.ff_matrix.specs.PrivateRows.{AreRows, IsCleared, Eliminates};
 
 use crate::places::{add_multiple, scale_places};
 use crate::{Column, MAX_WIDTH};

@@ -2,10 +2,10 @@
 ghost use Rattle.std.specs.Prelude.{◌≡◌, ◌≢◌, ℕ, ◌+◌, ◌<◌, ◌≤◌, ◌↔◌, List, false, [], length, map, take, All, IsTrue, IsNone, IfSome, slice_index, slice_index_or, replicate};
 ghost use Rattle.alg_model.specs.Coefficients.{residues, mod_ops};
 ghost use Rattle.alg_model.specs.Matrices.{entry, column_at, matrix_apply, matrix_product, identity_matrix, IsColumn, IsMatrix, IsIndependent, IsKernelBasis};
-ghost use Rattle.alg_linear.specs.InnerGrids.{AreFree};
+ghost use Rattle.alg_linear.specs.PrivateGrids.{AreFree};
 ghost use Rattle.ff_matrix.specs.Echelons.{IsEchelonOf};
 ghost use Rattle.ff_matrix.specs.ModularMatrix.{ModularMatrix, IsModularMatrix};
-ghost use Rattle.ff_matrix.specs.InnerRows.{ArePlaces, IsKernelColumn};
+ghost use Rattle.ff_matrix.specs.PrivateRows.{ArePlaces, IsKernelColumn};
 
 use crate::places::zeros;
 use crate::{Column, ColumnList, Echelon, Matrix};

@@ -8,7 +8,7 @@ use Rattle.alg_rings.specs.Laws.{IsPropositional}
 use Rattle.alg_rings.proofs.Trims.{length_poly_difference}
 use Rattle.alg_rings.proofs.ResidueFields.{residues_propositional, residues_field}
 use Rattle.alg_rings.proofs.CarrierPolynomials.{nil_polynomial, one_polynomial, poly_product_polynomial, poly_difference_polynomial}
-use Rattle.ff_poly.specs.InnerDivisors.{IsNormalizer}
+use Rattle.ff_poly.specs.PrivateDivisors.{IsNormalizer}
 use Rattle.ff_poly.specs.declared.divisors.Bezout.{Bezout}
 use Rattle.ff_poly.proofs.Euclid.{Combines, combines_first, combines_second, combines_step, combines_multiple, Short, short_start, short_step, Times, division_sizes, length_product_le, length_nil_product, length_product_nil, multiplier_polynomial, multiple_gcd}
 

@@ -1,2 +1,2 @@
 pub mod Polynomial
-pub mod InnerDivisors
+pub mod PrivateDivisors

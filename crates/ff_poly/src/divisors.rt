@@ -3,7 +3,7 @@ ghost use Rattle.std.specs.Prelude.{◌≡◌, ◌≢◌, ℕ, ◌+◌, ◌-◌,
 ghost use Rattle.alg_model.specs.Coefficients.{mod_ops, residues};
 ghost use Rattle.alg_model.specs.Polynomials.{trim, poly_sum, poly_difference, poly_product, leading};
 ghost use Rattle.alg_model.specs.Factors.{IsDivision, IsGreatestCommonDivisor};
-ghost use Rattle.ff_poly.specs.InnerDivisors.{IsNormalizer};
+ghost use Rattle.ff_poly.specs.PrivateDivisors.{IsNormalizer};
 ghost use Rattle.ff_poly.specs.Polynomial.{IsPoly};
 
 use crate::{MAX_POLY, Poly};

@@ -1,6 +1,6 @@
 //! Laws of the script language: functions that do nothing, whose clauses are the laws.
 
-ghost use Rattle.lat_script.specs.ScriptLaws.{SpelledTexts, TakenLines, OneScript, OneFault, NeverBoth, ScriptOrFault, PrintableHeader, PrintableCommand, Limits, FaultKinds};
+ghost use Rattle.lat_script.specs.Theorems.{SpelledTexts, TakenLines, OneScript, OneFault, NeverBoth, ScriptOrFault, PrintableHeader, PrintableCommand, Limits, FaultKinds};
 
 /// What a text spells, without going line by line: no line has more than `MAX_LINE` bytes, the lines
 /// that aren't passed over are the header and then one line a command, with that command's words,

@@ -8,7 +8,7 @@ use Rattle.std.specs.Int.Digits.{AllBelowBase, digits_of}
 use Rattle.ff_poly.proofs.Characteristics.{characteristic_small}
 use Rattle.lat_script.specs.Names.{IsDeclaredName, IsNameByte}
 use Rattle.lattice_run.specs.Lattice.{IsInTable}
-use Rattle.lattice_run.specs.Laws.{OpeningNames}
+use Rattle.lattice_run.specs.Theorems.{OpeningNames}
 
 digits_named : (ds : List ℕ) → AllBelowBase 10 ds → All IsNameByte (map (λ d. 48 + d) ds)
 digits_named [] h = All-nil IsNameByte

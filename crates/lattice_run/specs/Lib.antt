@@ -2,5 +2,5 @@ pub mod Lattice
 pub mod Transcript
 pub mod Answers
 pub mod Headline
-pub mod Laws
+pub mod Theorems
 pub mod PrivateRuns

@@ -3,7 +3,7 @@
 ghost use Rattle.std.specs.Prelude.{◌≡◌};
 ghost use Rattle.lattice_run.specs.declared.lattice.TheConstants.{MAX_FIELDS, TOP_DEGREE};
 ghost use Rattle.lattice_run.specs.declared.run.TheConstants.{MAX_INPUT};
-ghost use Rattle.lattice_run.specs.Laws.{OpeningNames, OpeningCharacteristics, OpeningPolynomials, DeclarationHasReply, DeclarationHasOneReply, FreeNameIsDeclared, OpeningIsLattice, DeclaringKeepsLattice, ScriptHasTranscript, ScriptHasOneTranscript, InputHasAnswer, InputHasOneAnswer, StatusNumbers};
+ghost use Rattle.lattice_run.specs.Theorems.{OpeningNames, OpeningCharacteristics, OpeningPolynomials, DeclarationHasReply, DeclarationHasOneReply, FreeNameIsDeclared, OpeningIsLattice, DeclaringKeepsLattice, ScriptHasTranscript, ScriptHasOneTranscript, InputHasAnswer, InputHasOneAnswer, StatusNumbers};
 
 /// The limits, and the statuses, as numbers.
 pub fn limits()

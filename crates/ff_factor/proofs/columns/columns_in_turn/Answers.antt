@@ -6,7 +6,7 @@ use Rattle.std.proofs.lemmas.List.FromFn.{map-range_with_len_more}
 use Rattle.alg_model.specs.Coefficients.{mod_ops}
 use Rattle.alg_model.specs.Values.{degree}
 use Rattle.ff_factor.specs.Certificates.{berlekamp_column}
-use Rattle.ff_factor.specs.InnerSplitting.{ArePlacesOfPower, residues_modulo}
+use Rattle.ff_factor.specs.PrivateSplitting.{ArePlacesOfPower, residues_modulo}
 use Rattle.ff_factor.proofs.PowersOfVariable.{places_of_one, power_from_places}
 use Rattle.ff_factor.proofs.GrowingLists.{refill_whole}
 use Rattle.ff_factor.proofs.columns.columns_in_turn.Goals as goal

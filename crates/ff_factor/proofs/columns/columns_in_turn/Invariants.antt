@@ -3,7 +3,7 @@ use Rattle.std.specs.List.{range_with_len}
 use Rattle.alg_model.specs.Coefficients.{mod_ops}
 use Rattle.alg_model.specs.Values.{degree}
 use Rattle.ff_factor.specs.Certificates.{berlekamp_column}
-use Rattle.ff_factor.specs.InnerSplitting.{ArePlacesOfPower}
+use Rattle.ff_factor.specs.PrivateSplitting.{ArePlacesOfPower}
 use Rattle.ff_factor.proofs.columns.columns_in_turn.Given as goal
 
 abbrev pub invariant-loop-k : goal.invariant-loop-k

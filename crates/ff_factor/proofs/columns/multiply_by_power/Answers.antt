@@ -2,7 +2,7 @@ use Rattle.std.proofs.Common.{◌≡◌, suc, ◌+◌, ◌*◌, ◌^◌, ◌<◌
 use Rattle.std.proofs.lemmas.List.Elements.{All-weaker}
 use Rattle.alg_model.specs.Coefficients.{mod_ops}
 use Rattle.alg_model.specs.Values.{times_x}
-use Rattle.ff_factor.specs.InnerSplitting.{ArePlacesOfPower, residues_modulo}
+use Rattle.ff_factor.specs.PrivateSplitting.{ArePlacesOfPower, residues_modulo}
 use Rattle.ff_factor.proofs.PowersOfVariable.{places_of_next}
 use Rattle.ff_factor.proofs.columns.multiply_by_power.Goals as goal
 

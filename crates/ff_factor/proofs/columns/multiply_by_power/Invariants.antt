@@ -1,5 +1,5 @@
 use Rattle.std.proofs.Common.{◌≡◌, ℕ, ◌+◌, ◌*◌, ◌^◌, ◌<◌, length, All}
-use Rattle.ff_factor.specs.InnerSplitting.{ArePlacesOfPower}
+use Rattle.ff_factor.specs.PrivateSplitting.{ArePlacesOfPower}
 use Rattle.ff_factor.proofs.columns.multiply_by_power.Given as goal
 
 abbrev pub invariant-loop-k : goal.invariant-loop-k

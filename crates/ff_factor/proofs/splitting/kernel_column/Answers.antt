@@ -1,6 +1,6 @@
 use Rattle.std.proofs.Common.{◌≡◌, slice_index_or, ap, sym, ◌∙◌, subst}
 use Rattle.alg_rings.proofs.ResidueFields.{residues_field, residues_propositional}
-use Rattle.ff_factor.specs.InnerSplitting.{IsNonzeroKernelColumn}
+use Rattle.ff_factor.specs.PrivateSplitting.{IsNonzeroKernelColumn}
 use Rattle.ff_factor.proofs.KernelMembers.{kernel_member}
 use Rattle.ff_factor.proofs.splitting.kernel_column.Goals as goal
 

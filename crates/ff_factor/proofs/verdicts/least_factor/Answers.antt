@@ -3,7 +3,7 @@ use Rattle.std.specs.List.Sorted.{IsSorted}
 use Rattle.alg_model.specs.Coefficients.{residues}
 use Rattle.alg_model.specs.Factors.{order_by, IsLeastFactor}
 use Rattle.ff_factor.specs.FactorLists.{coefficients_of}
-use Rattle.ff_factor.specs.InnerSplitting.{Collects}
+use Rattle.ff_factor.specs.PrivateSplitting.{Collects}
 use Rattle.ff_factor.proofs.Collecting.{collects_parts, factorization_collected, first_is_least, sorted_none}
 use Rattle.ff_factor.proofs.verdicts.least_factor.Goals as goal
 

@@ -1,5 +1,5 @@
 use Rattle.std.proofs.Common.{◌≡◌, ℕ, length, ap, subst, arith}
-use Rattle.ff_matrix.specs.InnerRows.{Eliminates}
+use Rattle.ff_matrix.specs.PrivateRows.{Eliminates}
 use Rattle.ff_matrix.proofs.RowPlaces.{eliminates_start}
 use Rattle.ff_matrix.proofs.elimination.reduce.Goals as goal
 

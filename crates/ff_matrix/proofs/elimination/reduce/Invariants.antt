@@ -1,5 +1,5 @@
 use Rattle.std.proofs.Common.{◌≤◌, length}
-use Rattle.ff_matrix.specs.InnerRows.{AreRows, Eliminates}
+use Rattle.ff_matrix.specs.PrivateRows.{AreRows, Eliminates}
 use Rattle.ff_matrix.proofs.elimination.reduce.Given as goal
 
 abbrev pub invariant-loop-column : goal.invariant-loop-column

@@ -3,7 +3,7 @@ use Rattle.std.proofs.lemmas.List.{get_or_read}
 use Rattle.arrayvec.proofs.ArrayVecLemmas.{items-with_items}
 use Rattle.alg_model.specs.Coefficients.{mod_ops}
 use Rattle.alg_model.specs.Matrices.{column_at}
-use Rattle.ff_matrix.specs.InnerRows.{IsKernelColumn}
+use Rattle.ff_matrix.specs.PrivateRows.{IsKernelColumn}
 use Rattle.ff_matrix.proofs.PivotPlaces.{kernel_column_read}
 use Rattle.ff_matrix.proofs.solutions.kernel_column.Goals as goal
 

@@ -1,7 +1,7 @@
 use Rattle.std.proofs.Common.{ℕ, [], ◌∷◌, ◌++◌, length, get_or, ap, sym, subst, ⊎_elim, arith}
 use Rattle.std.proofs.lemmas.Bool.{cases_eq}
 use Rattle.std.proofs.lemmas.List.{length_push, get_or_append_left, get_or_push}
-use Rattle.ff_matrix.specs.InnerRows.{IsKernelColumn}
+use Rattle.ff_matrix.specs.PrivateRows.{IsKernelColumn}
 use Rattle.ff_matrix.proofs.solutions.kernel_columns.Goals as goal
 
 pub loop-f-preserved : goal.loop-f-preserved

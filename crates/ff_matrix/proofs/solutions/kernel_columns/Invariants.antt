@@ -1,5 +1,5 @@
 use Rattle.std.proofs.Common.{◌≡◌, ℕ, ◌<◌, [], length, get_or}
-use Rattle.ff_matrix.specs.InnerRows.{IsKernelColumn}
+use Rattle.ff_matrix.specs.PrivateRows.{IsKernelColumn}
 use Rattle.ff_matrix.proofs.solutions.kernel_columns.Given as goal
 
 abbrev pub invariant-loop-f : goal.invariant-loop-f

@@ -1,7 +1,7 @@
 use Rattle.std.proofs.Common.{◌≡◌, ap₂, sym, ◌∙◌, subst}
 use Rattle.std.specs.List.{insert}
 use Rattle.ff_factor.specs.FactorLists.{AreOver}
-use Rattle.ff_factor.specs.InnerSplitting.{Collects}
+use Rattle.ff_factor.specs.PrivateSplitting.{Collects}
 use Rattle.ff_factor.proofs.Collecting.{collects_irreducible}
 use Rattle.ff_factor.proofs.factorization.FactorList.add.Goals as goal
 

@@ -10,7 +10,7 @@ use Rattle.alg_model.specs.Coefficients.{Ops, residues, mod_ops}
 use Rattle.alg_model.specs.Polynomials.{sum, scale}
 use Rattle.alg_model.specs.Matrices.{Matrix, entry, IsColumn}
 use Rattle.alg_rings.proofs.Residues.{residues_ring}
-use Rattle.alg_linear.specs.InnerElimination.{IsEliminated}
+use Rattle.alg_linear.specs.PrivateElimination.{IsEliminated}
 use Rattle.ff_matrix.specs.declared.TheConstants.{MAX_WIDTH}
 
 abbrev pub AreRows : ℕ → List (List ℕ) → Type 0
