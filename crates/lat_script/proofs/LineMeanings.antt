@@ -8,7 +8,7 @@ use Rattle.lat_script.specs.declared.commands.TheConstants.{MAX_LINE, MAX_COMMAN
 use Rattle.lat_script.specs.declared.commands.Command.{Command}
 use Rattle.lat_script.specs.declared.commands.Command.TheVariants.{Field}
 use Rattle.lat_script.specs.Digits.{digits_text}
-use Rattle.lat_script.specs.declared.faults.TheConstants.{TOO_LONG, NO_HEADER, NO_FORM, TOO_MANY_COMMANDS}
+use Rattle.lat_script.specs.declared.script_faults.TheConstants.{TOO_LONG, NO_HEADER, NO_FORM, TOO_MANY_COMMANDS}
 use Rattle.lat_script.specs.Grammar.{words_of, IsPassedOver, header_words, command_words, SpellsCommand, State, Form, PassedOver, Header, OfCommand, HasForm, Says}
 use Rattle.lat_script.proofs.LinesAndWords.{split_cons, is_word, word_taken}
 use Rattle.lat_script.proofs.CoefficientLists.{digits_text_injective}

@@ -8,7 +8,7 @@ use Rattle.std.proofs.lemmas.Bool.{cases_Bool, cases_lt, cond-true, cond-false, 
 use Rattle.lat_script.specs.declared.commands.TheConstants.{MAX_LINE, MAX_COMMANDS}
 use Rattle.lat_script.specs.declared.commands.Command.{Command}
 use Rattle.lat_script.specs.declared.commands.Script.{Script}
-use Rattle.lat_script.specs.declared.faults.TheConstants.{NO_HEADER}
+use Rattle.lat_script.specs.declared.script_faults.TheConstants.{NO_HEADER}
 use Rattle.lat_script.specs.Grammar.{lines_of, words_of, IsPassedOver, header_words, command_words, IsCommand, State, at_start, script_of, Form, PassedOver, Header, OfCommand, after, Says, Means, Spells}
 use Rattle.lat_script.specs.ScriptLaws.{begins_a_form, is_taken, IsTextOf}
 use Rattle.lat_script.proofs.DecidedWords.{Decided, decide_passed}

@@ -17,7 +17,7 @@ use Rattle.lat_script.specs.declared.commands.TheConstants.{MAX_LINE, MAX_COMMAN
 use Rattle.lat_script.specs.declared.commands.Command.{Command}
 use Rattle.lat_script.specs.declared.commands.Command.TheVariants.{Field}
 use Rattle.lat_script.specs.declared.commands.Script.{Script}
-use Rattle.lat_script.specs.declared.faults.TheConstants.{TOO_LONG, NO_HEADER, NO_FORM, TOO_MANY_COMMANDS}
+use Rattle.lat_script.specs.declared.script_faults.TheConstants.{TOO_LONG, NO_HEADER, NO_FORM, TOO_MANY_COMMANDS}
 use Rattle.lat_script.specs.Names.{IsDeclaredName}
 use Rattle.lat_script.specs.Digits.{AreDigits, digits_text}
 
