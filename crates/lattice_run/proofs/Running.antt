@@ -11,7 +11,7 @@ use Rattle.lat_script.specs.declared.commands.Script.{Script}
 use Rattle.lat_script.specs.declared.commands.TheConstants.{MAX_COMMANDS}
 use Rattle.lat_script.specs.Grammar.{State, Form, PassedOver, Header, OfCommand, at_start, script_of, after, Says, Means, Spells, FirstBad, lines_of}
 use Rattle.lat_script.specs.Texts.{usage_text, bad_line_text, too_long_text}
-use Rattle.lat_script.specs.declared.faults.NoMemory.{NoMemory}
+use Rattle.lat_script.specs.declared.memory.NoMemory.{NoMemory}
 use Rattle.lattice_run.specs.declared.run.TheConstants.{MAX_INPUT}
 use Rattle.lattice_run.specs.declared.run.Output.{Output}
 use Rattle.lattice_run.specs.Answers.{IsSolo, Answers, IsInput}
