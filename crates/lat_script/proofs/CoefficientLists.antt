@@ -12,9 +12,9 @@ use Rattle.std.proofs.lemmas.Bool.{ne_eqb}
 use Rattle.lat_script.specs.declared.digits.TheConstants.{MAX_DIGITS}
 use Rattle.lat_script.specs.Digits.{AreDigits, digits_text}
 
--- between commas
-abbrev parts : List ℕ → List (List ℕ)
-parts = slice_split (λ b. eqb b 44)
+-- what stands between the commas of a word
+abbrev pub between_commas : List ℕ → List (List ℕ)
+between_commas = slice_split (λ b. eqb b 44)
 
 no_comma : (ds : List ℕ) → AllDigits 10 ds → All (λ b. eqb b 44 ≡ false) ds
 no_comma [] h = All-nil (λ b. eqb b 44 ≡ false)
@@ -26,7 +26,7 @@ no_comma_in : (n : ℕ) → n < 256 → All (λ b. eqb b 44 ≡ false) (decimal 
 no_comma_in n l = no_comma (decimal n) (decimal_is_IsNumeral n (omega arith)).0.1
 
 parts-join : (c : List ℕ) → 0 < length c → All (λ n. n < 256) c
-    → parts (join_with_byte 44 (map decimal c)) ≡ map decimal c
+    → between_commas (join_with_byte 44 (map decimal c)) ≡ map decimal c
 parts-join [] some small = absurd (omega arith)
 parts-join (n ∷ []) some small = slice_split_none (λ b. eqb b 44) (decimal n) (no_comma_in n (All-head (λ n. n < 256) n [] small))
 parts-join (n ∷ m ∷ c) some small =
@@ -34,12 +34,12 @@ parts-join (n ∷ m ∷ c) some small =
     ∙ ap (λ r. decimal n ∷ r) (parts-join (m ∷ c) (omega arith) (All-tail (λ n. n < 256) n (m ∷ c) small))
 
 -- the parts of the text of a list are its numbers in decimal
-pub parts-digits_text : (c : List ℕ) → AreDigits c → parts (digits_text c) ≡ map decimal c
+pub parts-digits_text : (c : List ℕ) → AreDigits c → between_commas (digits_text c) ≡ map decimal c
 unfolding digits_text
 parts-digits_text c h = parts-join c h.count.0 h.bytes
 
 -- a word whose parts are the numbers of a list is the text of the list
-pub digits_text_from_parts : (word c : List ℕ) → parts word ≡ map decimal c → word ≡ digits_text c
+pub digits_text_from_parts : (word c : List ℕ) → between_commas word ≡ map decimal c → word ≡ digits_text c
 unfolding digits_text
 digits_text_from_parts word c e = sym (join_with_byte-slice_split 44 word) ∙ ap (join_with_byte 44) e
 
@@ -61,7 +61,7 @@ map_injective (m ∷ c) (n ∷ d) hc hd e =
 pub digits_text_injective : (c d : List ℕ) → AreDigits c → AreDigits d
     → digits_text c ≡ digits_text d → c ≡ d
 digits_text_injective c d hc hd e =
-    map_injective c d hc.bytes hd.bytes (sym (parts-digits_text c hc) ∙ ap parts e ∙ parts-digits_text d hd)
+    map_injective c d hc.bytes hd.bytes (sym (parts-digits_text c hc) ∙ ap between_commas e ∙ parts-digits_text d hd)
 
 -- the part after those of xs is a number of the list
 next_number : (xs c part : List ℕ) (more : List (List ℕ))
@@ -79,11 +79,11 @@ next_number (x ∷ xs) (n ∷ c) part more e small =
 
 -- no list is refused where a part is no number, or there is no room for it
 pub not_digits : (word xs part : List ℕ) (more : List (List ℕ))
-    → map decimal xs ++ (part ∷ more) ≡ parts word
+    → map decimal xs ++ (part ∷ more) ≡ between_commas word
     → (length xs ≡ MAX_DIGITS) ⊎ ((n : ℕ) → n < 256 → part ≢ decimal n) → (c : List ℕ) → AreDigits c
     → word ≢ digits_text c
 not_digits word xs part more e bad c are is =
-    let found = next_number xs c part more (e ∙ ap parts is ∙ parts-digits_text c are) are.bytes in
+    let found = next_number xs c part more (e ∙ ap between_commas is ∙ parts-digits_text c are) are.bytes in
     elim bad [
       | inl full ↦ omega (arith, found.0, are.count.1)
       | inr none ↦ none found.1.0 found.1.1 found.1.2
@@ -102,11 +102,11 @@ push_parts xs part more all n e is =
 -- its text
 pub pushed_last : (word xs part all : List ℕ) (n : ℕ) → All (λ n. n < 256) xs → n < 256
     → length xs < MAX_DIGITS → all ≡ xs ++ n ∷ []
-    → map decimal xs ++ (part ∷ []) ≡ parts word → part ≡ decimal n
+    → map decimal xs ++ (part ∷ []) ≡ between_commas word → part ≡ decimal n
     → AreDigits all × (word ≡ digits_text all)
 pushed_last word xs part all n small l room e so_far is =
-    let more = push_parts xs part [] (parts word) n so_far is in
-    let texts : parts word ≡ map decimal (xs ++ n ∷ []) = sym more ∙ append-nil (map decimal (xs ++ n ∷ [])) in (
+    let more = push_parts xs part [] (between_commas word) n so_far is in
+    let texts : between_commas word ≡ map decimal (xs ++ n ∷ []) = sym more ∙ append-nil (map decimal (xs ++ n ∷ [])) in (
       subst AreDigits (sym e) (record {
         count = (omega (arith, length_push xs n), omega (arith, length_push xs n));
         bytes = All-push (λ n. n < 256) xs n small l;

@@ -1,9 +1,8 @@
 -- Each condition on the words of a line holds or fails.
 use Rattle.std.proofs.Common.{◌≡◌, ℕ, zero, suc, ◌<◌, ◌≤◌, ◌^◌, Option, Some, None, List, [], ◌∷◌, length, map, sym, refl, ap, ◌∙◌, subst, inl, inr, arith}
-use Rattle.std.specs.Prelude.{◌⊎◌, ◌≢◌, ◌==◌, not, find, codes, decimal, All, IfSome}
+use Rattle.std.specs.Prelude.{◌⊎◌, ◌≢◌, ◌==◌, codes, decimal, All, IfSome}
 use Rattle.std.specs.Char.{IsAsciiAlphabetic}
 use Rattle.std.specs.Int.{IsInRange}
-use Rattle.std.specs.List.{slice_split}
 use Rattle.std.proofs.lemmas.List.{length-map}
 use Rattle.std.proofs.lemmas.List.Elements.{All-head, All-tail, All-cons, All-nil}
 use Rattle.std.proofs.lemmas.Bool.{cases_eq, cases_lt}
@@ -13,9 +12,9 @@ use Rattle.lat_script.specs.declared.names.TheConstants.{MAX_NAME}
 use Rattle.lat_script.specs.declared.digits.TheConstants.{MAX_DIGITS}
 use Rattle.lat_script.specs.Names.{IsNameByte, IsDeclaredName}
 use Rattle.lat_script.specs.Digits.{AreDigits, digits_text}
-use Rattle.lat_script.specs.Grammar.{IsPassedOver, SpellsCommand}
+use Rattle.lat_script.specs.Grammar.{first_byte, IsPassedOver, SpellsCommand}
 use Rattle.lat_script.proofs.LinesAndWords.{split_cons}
-use Rattle.lat_script.proofs.CoefficientLists.{parts-digits_text, digits_text_from_parts}
+use Rattle.lat_script.proofs.CoefficientLists.{between_commas, parts-digits_text, digits_text_from_parts}
 
 -- a statement that holds or fails
 abbrev pub Decided : Type 0 → Type 0
@@ -128,12 +127,9 @@ decide_numbers (part ∷ parts) = more (decide_number part 256) (decide_numbers 
         none (n, All-head (λ n. n < 256) n c small, is)
 
 -- a coefficient list
-abbrev parts_of : List ℕ → List (List ℕ)
-parts_of = slice_split (λ b. b == 44)
-
 decide_digits : (word : List ℕ) → Decided ((c : List ℕ) × AreDigits c × (word ≡ digits_text c))
-decide_digits word = by_parts (decide_numbers (parts_of word)) where
-  sized : (c : List ℕ) → All (λ n. n < 256) c → parts_of word ≡ map decimal c
+decide_digits word = by_parts (decide_numbers (between_commas word)) where
+  sized : (c : List ℕ) → All (λ n. n < 256) c → between_commas word ≡ map decimal c
       → Decided (length c ≤ MAX_DIGITS)
       → Decided ((c : List ℕ) × AreDigits c × (word ≡ digits_text c))
   sized c small e (inl room) =
@@ -147,13 +143,13 @@ decide_digits word = by_parts (decide_numbers (parts_of word)) where
         digits_text_from_parts word c e,
       )
   sized c small e (inr long) = inr (λ h.
-      let same = ap length (sym e ∙ ap parts_of h.2 ∙ parts-digits_text h.0 h.1) in
+      let same = ap length (sym e ∙ ap between_commas h.2 ∙ parts-digits_text h.0 h.1) in
       long (omega (arith, same, length-map c decimal, length-map h.0 decimal, h.1.count.1)))
 
-  by_parts : Decided (AreNumbers (parts_of word))
+  by_parts : Decided (AreNumbers (between_commas word))
       → Decided ((c : List ℕ) × AreDigits c × (word ≡ digits_text c))
   by_parts (inl c) = sized c.0 c.1 c.2 (decide_le (length c.0) MAX_DIGITS)
-  by_parts (inr none) = inr (λ h. none (h.0, h.1.bytes, ap parts_of h.2 ∙ parts-digits_text h.0 h.1))
+  by_parts (inr none) = inr (λ h. none (h.0, h.1.bytes, ap between_commas h.2 ∙ parts-digits_text h.0 h.1))
 
 -- the words of a command
 abbrev pub SpellsSome : List (List ℕ) → Type 0
@@ -208,4 +204,4 @@ decide_first (Some b) = cases_eq b 35
 
 -- a line is passed over or not
 pub decide_passed : (line : List ℕ) → Decided (IsPassedOver line)
-decide_passed line = decide_first (find (λ b. not (b == 32)) line)
+decide_passed line = decide_first (first_byte line)

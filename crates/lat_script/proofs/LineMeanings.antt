@@ -1,6 +1,6 @@
 -- What a line says: which form it has, or which fault.
-use Rattle.std.proofs.Common.{◌≡◌, ℕ, ◌<◌, ◌≤◌, true, false, cond, eqb, Option, Some, Ok, Err, List, [], ◌∷◌, length, sym, refl, ap, ◌∙◌, subst, inl, inr, arith}
-use Rattle.std.specs.Prelude.{◌==◌, not, nat_lt, filter, find, decimal, IfSome}
+use Rattle.std.proofs.Common.{◌≡◌, ℕ, ◌<◌, ◌≤◌, true, false, cond, eqb, Some, Ok, Err, List, [], ◌∷◌, length, sym, refl, ap, ◌∙◌, subst, inl, inr, arith}
+use Rattle.std.specs.Prelude.{◌==◌, not, filter, decimal, IfSome}
 use Rattle.std.specs.List.{slice_split, onto_first}
 use Rattle.std.proofs.lemmas.Bool.{true≢false}
 use Rattle.std.proofs.lemmas.Fmt.{decimal_injective}
@@ -8,27 +8,25 @@ use Rattle.lat_script.specs.declared.commands.TheConstants.{MAX_LINE, MAX_COMMAN
 use Rattle.lat_script.specs.declared.commands.Command.{Command}
 use Rattle.lat_script.specs.declared.commands.Command.TheVariants.{Field}
 use Rattle.lat_script.specs.Digits.{digits_text}
-use Rattle.lat_script.specs.declared.faults.TheConstants.{TOO_LONG, NO_HEADER, NO_FORM, TOO_MANY_COMMANDS}
-use Rattle.lat_script.specs.Grammar.{words_of, IsPassedOver, header_words, command_words, SpellsCommand, State, Form, PassedOver, Header, OfCommand, HasForm, Says}
+use Rattle.lat_script.specs.declared.script_faults.TheConstants.{TOO_LONG, NO_HEADER, NO_FORM, TOO_MANY_COMMANDS}
+use Rattle.lat_script.specs.Grammar.{words_of, first_byte, IsPassedOver, header_words, command_words, SpellsCommand, State, Form, PassedOver, Header, OfCommand, HasForm, Says}
 use Rattle.lat_script.proofs.LinesAndWords.{split_cons, is_word, word_taken}
 use Rattle.lat_script.proofs.CoefficientLists.{digits_text_injective}
 
--- a text's first byte that isn't a space is that of its first word
-abbrev first_byte : List ℕ → Option ℕ
-first_byte line = find (λ b. not (b == 32)) line
-
+-- the words of a line, where they are to be computed
 abbrev words_in : List ℕ → List (List ℕ)
-words_in line = filter (λ word. nat_lt 0 (length word)) (slice_split (λ b. b == 32) line)
+words_in line = filter is_word (slice_split (λ b. b == 32) line)
 
+-- a line's first byte that isn't a space is that of its first word
 first_byte_in : (line : List ℕ) (b : ℕ) (word : List ℕ) (words : List (List ℕ))
     → words_in line ≡ (b ∷ word) ∷ words → first_byte line ≡ Some b
 first_byte_in [] b word words e = cc
 first_byte_in (x ∷ xs) b word words e =
     let rest = split_cons (λ b. b == 32) xs in
-    elim (eqb x 32) as (λ t. filter (λ word. nat_lt 0 (length word)) (cond t ([] ∷ slice_split (λ b. b == 32) xs) (onto_first x (slice_split (λ b. b == 32) xs))) ≡ (b ∷ word) ∷ words → cond (not t) (Some x) (first_byte xs) ≡ Some b) [
+    elim (eqb x 32) as (λ t. filter is_word (cond t ([] ∷ slice_split (λ b. b == 32) xs) (onto_first x (slice_split (λ b. b == 32) xs))) ≡ (b ∷ word) ∷ words → cond (not t) (Some x) (first_byte xs) ≡ Some b) [
       | true ↦ λ h. first_byte_in xs b word words h
       | false ↦ λ h.
-          let first : (x ∷ rest.0) ∷ filter (λ word. nat_lt 0 (length word)) rest.1 ≡ (b ∷ word) ∷ words = sym (word_taken (x ∷ rest.0) rest.1 (omega arith)) ∙ sym (ap (λ parts. filter is_word (onto_first x parts)) rest.2) ∙ h in
+          let first : (x ∷ rest.0) ∷ filter is_word rest.1 ≡ (b ∷ word) ∷ words = sym (word_taken (x ∷ rest.0) rest.1 (omega arith)) ∙ sym (ap (λ parts. filter is_word (onto_first x parts)) rest.2) ∙ h in
           let same : x ≡ b = cc in
           ap Some same
     ] e

@@ -1,16 +1,16 @@
 -- A text spells a script exactly where its lines are the script's: none too long, and those that aren't passed over the
 -- header and then one a command, of which there are not too many.
 use Rattle.std.proofs.Common.{◌≡◌, ℕ, ◌+◌, ◌<◌, ◌≤◌, Bool, true, false, cond, eqb, Option, Some, None, Result, Ok, Err, List, [], ◌∷◌, ◌++◌, length, map, sym, refl, ap, ◌∙◌, subst, inl, inr, arith, append_assoc, length-append}
-use Rattle.std.specs.Prelude.{◌==◌, ◌↔◌, IsTrue, not, find, filter, All, IfSome}
+use Rattle.std.specs.Prelude.{◌↔◌, IsTrue, not, filter, All, IfSome}
 use Rattle.std.proofs.lemmas.List.{append-nil, length_push}
 use Rattle.std.proofs.lemmas.List.Elements.{All-head, All-tail, All-cons, All-nil}
 use Rattle.std.proofs.lemmas.Bool.{cases_Bool, cases_lt, cond-true, cond-false, ne_eqb, true≢false}
 use Rattle.lat_script.specs.declared.commands.TheConstants.{MAX_LINE, MAX_COMMANDS}
 use Rattle.lat_script.specs.declared.commands.Command.{Command}
 use Rattle.lat_script.specs.declared.commands.Script.{Script}
-use Rattle.lat_script.specs.declared.faults.TheConstants.{NO_HEADER}
-use Rattle.lat_script.specs.Grammar.{lines_of, words_of, IsPassedOver, header_words, command_words, IsCommand, State, at_start, script_of, Form, PassedOver, Header, OfCommand, after, Says, Means, Spells}
-use Rattle.lat_script.specs.Theorems.{begins_a_form, is_taken, IsTextOf}
+use Rattle.lat_script.specs.declared.script_faults.TheConstants.{NO_HEADER}
+use Rattle.lat_script.specs.Grammar.{lines_of, words_of, first_byte, IsPassedOver, header_words, command_words, IsCommand, State, at_start, script_of, Form, PassedOver, Header, OfCommand, after, Says, Means, Spells}
+use Rattle.lat_script.specs.ScriptLaws.{begins_a_form, is_taken, IsTextOf}
 use Rattle.lat_script.proofs.DecidedWords.{Decided, decide_passed}
 use Rattle.lat_script.proofs.LineMeanings.{passed_no_header, passed_no_command, header_no_command, says_passed, says_header, says_command}
 
@@ -24,10 +24,10 @@ other_test None h = absurd (h tt)
 other_test (Some b) h = ap not (ne_eqb b 35 h)
 
 passed_not_taken : (line : List ℕ) → IsPassedOver line → is_taken line ≡ false
-passed_not_taken line = passed_test (find (λ b. not (b == 32)) line)
+passed_not_taken line = passed_test (first_byte line)
 
 other_taken : (line : List ℕ) → (IsPassedOver line → ⊥) → is_taken line ≡ true
-other_taken line = other_test (find (λ b. not (b == 32)) line)
+other_taken line = other_test (first_byte line)
 
 -- a line is taken exactly where it isn't passed over
 pub taken_lines : (line : List ℕ) → IsTrue (is_taken line) ↔ (¬ (IsPassedOver line))

@@ -2,10 +2,10 @@
 use Rattle.std.proofs.Common.{◌≡◌, ℕ, ◌+◌, cond, Result, Ok, Err, List, [], ◌∷◌, sym, refl, ap, subst, inl, inr}
 use Rattle.std.specs.Prelude.{◌⊎◌}
 use Rattle.lat_script.specs.declared.commands.Script.{Script}
-use Rattle.lat_script.specs.declared.faults.TheConstants.{NO_HEADER}
+use Rattle.lat_script.specs.declared.script_faults.TheConstants.{NO_HEADER}
 use Rattle.lat_script.specs.Grammar.{lines_of, State, at_start, script_of, Form, after, Says, Means, Spells, FirstBad}
-use Rattle.lat_script.specs.declared.faults.ScriptFault.{ScriptFault}
-use Rattle.lat_script.specs.declared.faults.ScriptFault.TheVariants as fault
+use Rattle.lat_script.specs.declared.script_faults.ScriptFault.{ScriptFault}
+use Rattle.lat_script.specs.declared.script_faults.ScriptFault.TheVariants as fault
 use Rattle.lat_script.specs.declared.parsing.LineFault.{LineFault}
 use Rattle.lat_script.specs.declared.parsing.LineFault.TheVariants as line_fault
 use Rattle.lat_script.specs.PrivateParsing.{at_line, TakesLine, Reads}

@@ -4,7 +4,7 @@ use Rattle.std.specs.Prelude.{◌⊎◌}
 use Rattle.std.proofs.lemmas.Bool.{cases_lt, cases_Bool}
 use Rattle.lat_script.specs.declared.commands.TheConstants.{MAX_LINE, MAX_COMMANDS}
 use Rattle.lat_script.specs.declared.commands.Script.{Script}
-use Rattle.lat_script.specs.declared.faults.TheConstants.{TOO_LONG, NO_HEADER, NO_FORM, TOO_MANY_COMMANDS}
+use Rattle.lat_script.specs.declared.script_faults.TheConstants.{TOO_LONG, NO_HEADER, NO_FORM, TOO_MANY_COMMANDS}
 use Rattle.lat_script.specs.Grammar.{lines_of, words_of, IsPassedOver, header_words, State, at_start, script_of, Form, PassedOver, Header, OfCommand, after, Says, Means, Spells, FirstBad}
 use Rattle.lat_script.proofs.LineMeanings.{says_too_long, says_no_header, says_passed, says_header, says_no_form, says_too_many, says_command}
 use Rattle.lat_script.proofs.DecidedWords.{Decided, SpellsSome, same_words, decide_command, decide_passed}

@@ -11,13 +11,13 @@
 --     Means state n lines read     what lines say, from line n on, after what the state holds
 --     Spells bytes script          the bytes spell the script
 --     FirstBad bytes n kind        line n is the first bad one, and kind is its fault
-use Rattle.std.specs.Prelude.{◌≡◌, ◌⊎◌, ℕ, ◌+◌, ◌<◌, ◌≤◌, ◌^◌, ◌==◌, Bool, true, false, not, nat_lt, if◌then◌else◌, List, [], ◌∷◌, ◌++◌, length, filter, find, codes, decimal, IfSome, Result, Ok, Err, MatchResult}
+use Rattle.std.specs.Prelude.{◌≡◌, ◌⊎◌, ℕ, ◌+◌, ◌<◌, ◌≤◌, ◌^◌, ◌==◌, Bool, true, false, not, nat_lt, if◌then◌else◌, List, [], ◌∷◌, ◌++◌, length, filter, find, codes, decimal, Option, IfSome, Result, Ok, Err, MatchResult}
 use Rattle.std.specs.List.{slice_split}
 use Rattle.lat_script.specs.declared.commands.TheConstants.{MAX_LINE, MAX_COMMANDS}
 use Rattle.lat_script.specs.declared.commands.Command.{Command}
 use Rattle.lat_script.specs.declared.commands.Command.TheVariants.{Field}
 use Rattle.lat_script.specs.declared.commands.Script.{Script}
-use Rattle.lat_script.specs.declared.faults.TheConstants.{TOO_LONG, NO_HEADER, NO_FORM, TOO_MANY_COMMANDS}
+use Rattle.lat_script.specs.declared.script_faults.TheConstants.{TOO_LONG, NO_HEADER, NO_FORM, TOO_MANY_COMMANDS}
 use Rattle.lat_script.specs.Names.{IsDeclaredName}
 use Rattle.lat_script.specs.Digits.{AreDigits, digits_text}
 
@@ -35,9 +35,13 @@ lines_of bytes = lines_of_parts (slice_split (λ b. b == 10) bytes)
 unfoldable pub words_of : List ℕ → List (List ℕ)
 words_of line = filter (λ word. nat_lt 0 (length word)) (slice_split (λ b. b == 32) line)
 
+-- the first byte of a line that isn't a space, if there is one
+abbrev pub first_byte : List ℕ → Option ℕ
+first_byte line = find (λ b. not (b == 32)) line
+
 -- the first byte that isn't a space is `#`, if there is one
 abbrev pub IsPassedOver : List ℕ → Type 0
-IsPassedOver line = IfSome (find (λ b. not (b == 32)) line) (λ b. b ≡ 35)
+IsPassedOver line = IfSome (first_byte line) (λ b. b ≡ 35)
 
 abbrev pub header_words : List (List ℕ)
 header_words = codes "lattice" ∷ codes "1" ∷ []

@@ -2,8 +2,8 @@
 use Rattle.std.specs.Prelude.{◌≡◌, ℕ, List, Result, Ok, Err}
 use Rattle.lat_script.specs.declared.parsing.LineFault.{LineFault}
 use Rattle.lat_script.specs.declared.parsing.LineFault.TheVariants as fault
-use Rattle.lat_script.specs.declared.faults.ScriptFault.{ScriptFault}
-use Rattle.lat_script.specs.declared.faults.ScriptFault.TheVariants as read
+use Rattle.lat_script.specs.declared.script_faults.ScriptFault.{ScriptFault}
+use Rattle.lat_script.specs.declared.script_faults.ScriptFault.TheVariants as read
 use Rattle.lat_script.specs.declared.commands.Script.{Script}
 use Rattle.lat_script.specs.Grammar.{State, Form, after, Says, Spells, FirstBad}
 

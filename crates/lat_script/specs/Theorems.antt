@@ -1,21 +1,21 @@
 -- Laws of the script language, each under a name; and what a text spells, without going line by
 -- line.
---     is_taken line             the line isn't passed over
---     IsTextOf bytes script     the lines of the text are those of the script
---     SpelledTexts              a text spells just the script whose text it is
---     OneScript, OneFault       a text spells one script, or has one first fault,
---     NeverBoth, ScriptOrFault  never both, and always one of the two
---     PrintableLines            which bytes a line has that isn't passed over
---     Limits, FaultKinds        the limits and the kinds of fault, as numbers
-use Rattle.std.specs.Prelude.{◌≡◌, ◌⊎◌, ◌↔◌, ℕ, ◌≤◌, ◌==◌, Bool, false, not, IsTrue, Option, Some, None, List, ◌∷◌, length, map, filter, find, All}
+--     is_taken line                      the line isn't passed over
+--     IsTextOf bytes script              the lines of the text are those of the script
+--     SpelledTexts, TakenLines           a text spells just the scripts whose text it is
+--     OneScript, OneFault                a text spells one script, or has one first fault,
+--     NeverBoth, ScriptOrFault           never both, and always one of the two
+--     PrintableHeader, PrintableCommand  which bytes a line has that isn't passed over
+--     Limits, FaultKinds                 the limits and the kinds of fault, as numbers
+use Rattle.std.specs.Prelude.{◌≡◌, ◌⊎◌, ◌↔◌, ℕ, ◌≤◌, ◌==◌, Bool, false, not, IsTrue, Option, Some, None, List, ◌∷◌, length, map, filter, All}
 use Rattle.std.specs.Int.{IsInRange}
 use Rattle.lat_script.specs.declared.commands.TheConstants.{MAX_SCRIPT, MAX_LINE, MAX_COMMANDS}
 use Rattle.lat_script.specs.declared.commands.Command.{Command}
 use Rattle.lat_script.specs.declared.commands.Script.{Script}
 use Rattle.lat_script.specs.declared.digits.TheConstants.{MAX_DIGITS}
-use Rattle.lat_script.specs.declared.faults.TheConstants.{TOO_LONG, NO_HEADER, NO_FORM, TOO_MANY_COMMANDS}
+use Rattle.lat_script.specs.declared.script_faults.TheConstants.{TOO_LONG, NO_HEADER, NO_FORM, TOO_MANY_COMMANDS}
 use Rattle.lat_script.specs.declared.names.TheConstants.{MAX_NAME}
-use Rattle.lat_script.specs.Grammar.{lines_of, words_of, IsPassedOver, header_words, command_words, IsCommand, SpellsCommand, Spells, FirstBad}
+use Rattle.lat_script.specs.Grammar.{lines_of, words_of, first_byte, IsPassedOver, header_words, command_words, IsCommand, SpellsCommand, Spells, FirstBad}
 
 -- whether there is a first byte, and it isn't `#`
 abbrev pub begins_a_form : Option ℕ → Bool
@@ -24,7 +24,7 @@ begins_a_form (Some b) = not (b == 35)
 
 -- whether a line isn't passed over, by its first byte that isn't a space
 abbrev pub is_taken : List ℕ → Bool
-is_taken line = begins_a_form (find (λ b. not (b == 32)) line)
+is_taken line = begins_a_form (first_byte line)
 
 -- No line is too long. The lines that aren't passed over are the header and then one a command,
 -- with that command's words. Each command's operands are those of the grammar, and there are not

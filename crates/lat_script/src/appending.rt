@@ -4,7 +4,7 @@ ghost use Rattle.std.specs.Prelude.{◌≡◌, ◌++◌, decimal, OnOk, OnErr};
 ghost use Rattle.lat_script.specs.Digits.{digits_text};
 ghost use Rattle.lat_script.specs.PrivateAppending.{Extends, separator, piece_text, pieces_text};
 
-use crate::faults::NoMemory;
+use crate::memory::NoMemory;
 use itoa::Buffer;
 
 // A piece of a line: a text as it stands, a number, or a coefficient list.

@@ -3,7 +3,7 @@
 ghost use Rattle.std.specs.Prelude.{◌≡◌, [], ◌∷◌, ◌++◌, OnOk, OnErr};
 
 use crate::digits::Digits;
-use crate::faults::NoMemory;
+use crate::memory::NoMemory;
 use crate::names::FieldName;
 use std::alloc::Global;
 use std::marker::Model;

@@ -1,8 +1,8 @@
 //! Reading the lines of a script.
 
-ghost use Rattle.std.specs.Prelude.{◌≡◌, ◌≢◌, ◌↔◌, ℕ, IsTrue, List, [], ◌∷◌, codes, find, not, ◌==◌, MatchOption};
+ghost use Rattle.std.specs.Prelude.{◌≡◌, ◌≢◌, ◌↔◌, ℕ, IsTrue, List, [], ◌∷◌, codes, MatchOption};
 ghost use Rattle.lat_script.specs.declared.commands.Command.{Command};
-ghost use Rattle.lat_script.specs.Grammar.{words_of, IsPassedOver, header_words, SpellsCommand};
+ghost use Rattle.lat_script.specs.Grammar.{words_of, first_byte, IsPassedOver, header_words, SpellsCommand};
 
 use crate::commands::Command;
 use crate::cutting::{first_word, three_words, two_words};
@@ -12,7 +12,7 @@ use crate::numbers::read_number;
 
 // The first byte of a line that isn't a space.
 fn first_not_space(line: &[u8]) -> Option<u8>
-    ensures { result ≡ find (λ b. not (b == 32)) line.now }
+    ensures { result ≡ first_byte line.now }
 {
     line.iter().copied().find(|byte| *byte != b' ')
 }

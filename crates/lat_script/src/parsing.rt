@@ -8,8 +8,9 @@ ghost use Rattle.lat_script.specs.PrivateParsing.{at_line, TakesLine, Reads};
 
 use crate::commands::{CommandList, MAX_COMMANDS, MAX_LINE, MAX_SCRIPT, Script};
 use crate::cutting::first_line;
-use crate::faults::{NO_FORM, NO_HEADER, NoMemory, ScriptFault, TOO_LONG, TOO_MANY_COMMANDS};
 use crate::line_forms::{command, is_header, is_passed_over};
+use crate::memory::NoMemory;
+use crate::script_faults::{NO_FORM, NO_HEADER, ScriptFault, TOO_LONG, TOO_MANY_COMMANDS};
 use std::alloc::Global;
 use std::marker::Model;
 

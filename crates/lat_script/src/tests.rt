@@ -16,7 +16,7 @@ fn reading(rt: &impl Abort, alloc: Global, bytes: &[u8]) -> Result<(u32, u32, us
     }
 }
 
-static SCRIPTS: [(&[u8], (u32, u32, usize)); 30] = [
+static SCRIPTS: [(&[u8], (u32, u32, usize)); 35] = [
     (b"", (1, 1, 0)),
     (b"\n", (1, 1, 0)),
     (b"\n  \n# note\n", (1, 1, 0)),
@@ -31,6 +31,11 @@ static SCRIPTS: [(&[u8], (u32, u32, usize)); 30] = [
     (b"lattice 3\n", (1, 1, 0)),
     (b"lattice 1 1\n", (1, 1, 0)),
     (b"lattice 1\r\n", (1, 1, 0)),
+    (b"\t\nlattice 1\n", (1, 1, 0)),
+    (b"#\r\nlattice 1\n# \t\n", (0, 0, 0)),
+    (b"lattice 1\n\t\n", (2, 3, 0)),
+    (b"lattice 1\n\r\n", (2, 3, 0)),
+    (b"lattice 1\nfield K 2 1,1,1\r\n", (2, 3, 0)),
     (b"\n#\nfield K 2 1,1,1\n", (3, 1, 0)),
     (b"lattice 1\nlattice 1\n", (2, 3, 0)),
     (b"lattice 1\nfield K 2", (2, 3, 0)),
@@ -96,6 +101,10 @@ fn limits(rt: HostRuntime) -> Result<(), Fail> {
     assert_eq!(rt; reading(&rt, rt.alloc(), &longest)?, (0, 0, 0));
     let longer = repeated(rt.alloc(), b"#", MAX_LINE + 1)?;
     assert_eq!(rt; reading(&rt, rt.alloc(), &longer)?, (2, 2, 0));
+    // a line that is too long comes before the lack of a header, and is measured where it is passed over
+    let spaces = [b' '; MAX_LINE + 1];
+    assert_eq!(rt; reading(&rt, rt.alloc(), &spaces)?, (1, 2, 0));
+    assert_eq!(rt; reading(&rt, rt.alloc(), &spaces[1..])?, (1, 1, 0));
     Ok(())
 }
 

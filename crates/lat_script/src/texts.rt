@@ -5,7 +5,7 @@ ghost use Rattle.lat_script.specs.PrivateAppending.{Extends};
 ghost use Rattle.lat_script.specs.Texts.{refusal_text, reply_text, outcome_text, line_text, summary_text, bad_line_text, too_long_text, usage_text};
 
 use crate::appending::{Piece, append};
-use crate::faults::NoMemory;
+use crate::memory::NoMemory;
 use crate::replies::{Line, Outcome, Reply, StepRefusal};
 
 fn add_refusal(out: &mut Vec<u8>, refusal: &StepRefusal) -> Result<(), NoMemory>

@@ -10,7 +10,7 @@ use Rattle.lat_io.specs.Source.{ReadWhole, TakesFront, TakesAtMost, TookBefore}
 use Rattle.lat_io.specs.Streams.{Stream}
 use Rattle.lat_script.specs.Grammar.{FirstBad}
 use Rattle.lat_script.specs.Texts.{usage_text, bad_line_text, too_long_text}
-use Rattle.lat_script.specs.declared.faults.NoMemory.{NoMemory}
+use Rattle.lat_script.specs.declared.memory.NoMemory.{NoMemory}
 use Rattle.lattice_run.specs.declared.run.TheConstants.{MAX_INPUT}
 use Rattle.lattice_run.specs.declared.run.Output.{Output}
 use Rattle.lattice_run.specs.declared.status.TheConstants.{NO_COMMAND, BAD_SCRIPT, NO_MEMORY}

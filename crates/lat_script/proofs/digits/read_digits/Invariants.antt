@@ -1,12 +1,12 @@
-use Rattle.std.proofs.Common.{◌≡◌, ◌==◌, ◌<◌, ◌++◌, map, length}
+use Rattle.std.proofs.Common.{◌≡◌, ◌<◌, ◌++◌, map, length}
 use Rattle.std.specs.Prelude.{All, decimal}
-use Rattle.std.specs.List.{slice_split}
+use Rattle.lat_script.proofs.CoefficientLists.{between_commas}
 use Rattle.lat_script.proofs.digits.read_digits.Given as goal
 
 -- the numbers so far, and then the parts of the rest, are the parts of the word
 abbrev pub invariant-loop-part : goal.invariant-loop-part
 invariant-loop-part l = record {
-  parts : map decimal l.numbers.items ++ slice_split (λ b. b == 44) l.rest ≡ slice_split (λ b. b == 44) l.word;
+  parts : map decimal l.numbers.items ++ between_commas l.rest ≡ between_commas l.word;
   small : All (λ n. n < 256) l.numbers.items;
 }
 

@@ -1,6 +1,5 @@
-//! What can come instead of a script or a text.
+//! What can come instead of a script.
 
-use std::alloc::{AllocError, AllocFailed};
 use thiserror::Error;
 
 /// The kind of fault of a first line, among those that aren't passed over, that isn't the header
@@ -15,23 +14,6 @@ pub const NO_FORM: u32 = 3;
 
 /// The kind of fault of a command with `MAX_COMMANDS` others before it.
 pub const TOO_MANY_COMMANDS: u32 = 6;
-
-/// Memory was refused.
-#[derive(Debug, Drop, Error)]
-#[error("out of memory")]
-pub struct NoMemory;
-
-impl From<AllocError> for NoMemory {
-    fn from(_error: AllocError) -> NoMemory {
-        NoMemory
-    }
-}
-
-impl<T: Drop> From<AllocFailed<T>> for NoMemory {
-    fn from(_error: AllocFailed<T>) -> NoMemory {
-        NoMemory
-    }
-}
 
 /// Why bytes gave no script.
 #[derive(Debug, Drop, Error)]
