@@ -10,7 +10,7 @@ use Rattle.lat_script.specs.declared.commands.Command.{Command}
 use Rattle.lat_script.specs.declared.commands.Script.{Script}
 use Rattle.lat_script.specs.declared.script_faults.TheConstants.{NO_HEADER}
 use Rattle.lat_script.specs.Grammar.{lines_of, words_of, first_byte, IsPassedOver, header_words, command_words, IsCommand, State, at_start, script_of, Form, PassedOver, Header, OfCommand, after, Says, Means, Spells}
-use Rattle.lat_script.specs.ScriptLaws.{begins_a_form, is_taken, IsTextOf}
+use Rattle.lat_script.specs.Theorems.{begins_a_form, is_taken, IsTextOf}
 use Rattle.lat_script.proofs.DecidedWords.{Decided, decide_passed}
 use Rattle.lat_script.proofs.LineMeanings.{passed_no_header, passed_no_command, header_no_command, says_passed, says_header, says_command}
 
