@@ -1,7 +1,7 @@
 -- What a call does to the bytes that a sink holds: `Some` of those bytes where the sink tells them,
 -- and `None` where it doesn't, of which nothing is claimed. That bytes were appended is std's
 -- `Appends`.
---     AppendsPart old new bytes     a front of these bytes was appended, and not all of them
+--     AppendsPart old new bytes     the first of these bytes were appended, and not all of them
 use Rattle.std.specs.Prelude.{ℕ, ◌<◌, List, length, take, Option}
 use Rattle.std.specs.Io.KnownBytes.{Appends}
 

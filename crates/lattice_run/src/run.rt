@@ -138,7 +138,7 @@ fn run<S: Source, K: Sink>(alloc: Global, words: &[String], source: &mut S, sink
 /// - [`BAD_SCRIPT`]: the input has more than `MAX_INPUT` bytes or spells no script; its fault line
 ///   was appended.
 /// - [`READ_FAILED`]: a read failed; nothing was appended.
-/// - [`WRITE_FAILED`]: a write failed; a front of what was to be appended was.
+/// - [`WRITE_FAILED`]: a write failed; the beginning of what was to be appended was.
 /// - [`NO_MEMORY`]: there was no memory; nothing was appended.
 pub fn run_plain<S: Source, K: Sink>(
     alloc: Global,

@@ -13,7 +13,7 @@ pub const BAD_SCRIPT: u8 = 3;
 /// A read failed; nothing was written.
 pub const READ_FAILED: u8 = 4;
 
-/// A write failed; a front of what was to be written was.
+/// A write failed; the beginning of what was to be written was.
 pub const WRITE_FAILED: u8 = 5;
 
 /// There was no memory; nothing was written.
