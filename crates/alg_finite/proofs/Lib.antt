@@ -1,0 +1,6 @@
+pub mod Enumerations
+pub mod FieldMaps
+pub mod FiniteField
+pub mod Extensions
+pub mod Values
+pub mod FiniteValues
