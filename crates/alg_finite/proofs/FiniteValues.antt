@@ -20,7 +20,7 @@ use Rattle.alg_fields.proofs.Primes.{IsPrime-characteristic}
 use Rattle.alg_fields.proofs.PowerRoots.{image_characteristic}
 use Rattle.alg_finite.proofs.Enumerations.{Enumeration, Repeats, digits, number, length_digits, number_below, digits_number, number_digits, repeats_or_distinct, members_distinct}
 use Rattle.alg_finite.proofs.FieldMaps.{equal_or_not}
-use Rattle.alg_finite.proofs.FiniteField.{FiniteField, frobenius, frobenius_add, frobenius_of_power, frobenius_homomorphism, frobenius_injective, root_bound_at, pow_mul, pow_one, pow_strict, pow_positive, above_one}
+use Rattle.alg_finite.proofs.FiniteField.{FiniteField, frobenius, frobenius_add, frobenius_of_power, frobenius_homomorphism, power_homomorphism, frobenius_cancel, root_bound_at, pow_mul, pow_one, pow_strict, pow_positive, above_one}
 use Rattle.alg_finite.proofs.Extensions.{fixed_few, frobenius_of_value}
 use Rattle.alg_finite.proofs.Values
 
@@ -96,7 +96,7 @@ module _ {A : Type 0} {c : Carrier A} (P : IsPropositional c) (F : IsField c) {p
   -- ---- Frobenius on the generator
   T : Homomorphism (Values.value_element_ops P F f not_constant monic) (Values.value_element_ops P F f not_constant monic)
       (λ a. power (Values.value_element_ops P F f not_constant monic) a (p ^ m))
-  T = frobenius_homomorphism L K.prime values_characteristic m
+  T = power_homomorphism L K.prime values_characteristic m
 
   conjugate_is_root : (i : ℕ) → value_at W (map h G) (frobenius W (p ^ m) i x) ≡ W.zero
   conjugate_is_root i =
@@ -119,10 +119,6 @@ module _ {A : Type 0} {c : Carrier A} (P : IsPropositional c) (F : IsField c) {p
       (λ d. absurd (let l : length f.0 < length (map h G) =
       root_bound_at L (map h G) leading_not_zero (λ i. frobenius W (p ^ m) i x) (length f.0) d (λ i l. conjugate_is_root i) in omega (arith, length_image)))
       (repeats_or_distinct (equal_or_not L.ring) (λ i. frobenius W (p ^ m) i x) (length f.0))
-
-  frobenius_cancel : (i : ℕ) (a b : Element (values c f.0)) → frobenius W (p ^ m) i a ≡ frobenius W (p ^ m) i b → a ≡ b
-  frobenius_cancel i a b e = frobenius_injective L K.prime values_characteristic (m * i) a b
-      (sym (frobenius_of_power L.ring p m i a) ∙ e ∙ frobenius_of_power L.ring p m i b)
 
   -- what brings the generator back brings all values back
   all_return : (k : ℕ) → frobenius W (p ^ m) k x ≡ x → (v : Element (values c f.0)) → frobenius W (p ^ m) k v ≡ v
@@ -148,7 +144,7 @@ module _ {A : Type 0} {c : Carrier A} (P : IsPropositional c) (F : IsField c) {p
   generator_returns =
       let r : Repeats (λ i. frobenius W (p ^ m) i x) (length f.0) = repeated in
       let k : ℕ = r.second - r.first in
-      let back : frobenius W (p ^ m) k x ≡ x = frobenius_cancel r.first (frobenius W (p ^ m) k x) x
+      let back : frobenius W (p ^ m) k x ≡ x = frobenius_cancel L K.prime values_characteristic m r.first (frobenius W (p ^ m) k x) x
       (sym (frobenius_add L.ring (p ^ m) r.first k x) ∙ ap (λ j. frobenius W (p ^ m) j x) (omega (arith, r.rising)) ∙ sym r.same) in
       let least : degree f.0 ≤ k = generator_period k (omega (arith, r.rising)) back in
       ap (λ j. frobenius W (p ^ m) j x) (omega (arith, r.within, r.rising)) ∙ back

@@ -4,3 +4,4 @@ pub mod FiniteField
 pub mod Extensions
 pub mod Values
 pub mod FiniteValues
+pub mod Orbits
