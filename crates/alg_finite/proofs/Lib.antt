@@ -5,3 +5,5 @@ pub mod Extensions
 pub mod Values
 pub mod FiniteValues
 pub mod Orbits
+pub mod Evaluation
+pub mod MinimalPolynomials
