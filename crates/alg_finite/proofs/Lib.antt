@@ -7,3 +7,4 @@ pub mod FiniteValues
 pub mod Orbits
 pub mod Evaluation
 pub mod MinimalPolynomials
+pub mod RootExistence
