@@ -8,3 +8,4 @@ pub mod Orbits
 pub mod Evaluation
 pub mod MinimalPolynomials
 pub mod RootExistence
+pub mod RootMaps

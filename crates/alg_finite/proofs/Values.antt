@@ -1,18 +1,21 @@
 -- The values over a field c modulo an irreducible polynomial, as a quotient of the polynomials over c: remainders, constants
 -- and the generator.
-use Rattle.std.proofs.Common.{◌≡◌, ◌-◌, ◌<◌, List, [], ◌∷◌, length, map, refl, ap, ap₂, sym, ◌∙◌, arith}
+use Rattle.std.proofs.Common.{◌≡◌, ◌-◌, ◌<◌, List, [], ◌∷◌, length, map, refl, ap, ap₂, sym, ◌∙◌, arith, All}
 use Rattle.std.proofs.lemmas.List.{length-replicate}
 use Rattle.std.proofs.lemmas.List.Elements.{All-append, All-replicate}
 use Rattle.alg_model.specs.Coefficients.{Ops, Carrier}
-use Rattle.alg_model.specs.Polynomials.{value_at}
+use Rattle.alg_model.specs.Polynomials.{value_at, trim, scale, product}
 use Rattle.alg_model.specs.Factors.{IsMonic, IsIrreducible}
 use Rattle.alg_model.specs.Values.{degree, padded, reduced, values}
 use Rattle.alg_model.specs.Fields.{IsField}
 use Rattle.alg_rings.specs.Laws.{IsPropositional, FieldLaws}
-use Rattle.alg_rings.proofs.Elements.{Element, element_ops, element_field, value_injective, elements}
+use Rattle.alg_rings.proofs.Elements.{Element, value, element_ops, element_field, value_injective, elements, elements_are, values_valid}
 use Rattle.alg_rings.proofs.Homomorphisms.{Homomorphism}
 use Rattle.alg_rings.proofs.Divisors.{Polynomial, polynomial_ops, divides_itself}
+use Rattle.alg_rings.proofs.Lists
+use Rattle.alg_rings.proofs.Validity.{scale_valid, product_valid}
 use Rattle.alg_fields.proofs.Classes
+use Rattle.alg_fields.proofs.Classes.{class_of}
 use Rattle.alg_fields.proofs.Constants.{constant, alone, constant_homomorphism}
 use Rattle.alg_fields.proofs.Generator
 use Rattle.alg_fields.proofs.Remainders
@@ -110,3 +113,33 @@ module _ {A : Type 0} {c : Carrier A} (P : IsPropositional c) (F : IsField c) (f
   value_from_generator v =
       let g : Polynomial c = polynomial_of P F f not_constant monic v.0 v.1 in
       (coefficients g, value_at_generator_element g ∙ same_value _ _ (Remainders.reduced_of_value P F f not_constant monic v.0 v.1))
+
+  -- a constant times a value is the value's multiple, place by place
+  pub constant_times : (a : Element c) (v : Element (values c f.0)) → (value_element_ops.mul (constant_element a) v).0 ≡ scale c.ops a.0 v.0
+  constant_times a v =
+      ap (λ w. w.0) (ap₂ value_element_ops.mul (sym (remainder_constant a)) (sym v_is) ∙ sym (remainder_mul (constant P F.ring a) V))
+      ∙ ap (reduced c.ops f.0) (ap (λ g. g.0) (sym (Classes.class_of_product P F.ring (a.0 ∷ []) v.0 (alone P F.ring a) v.1.0 product_is_valid))
+      ∙ ap (trim c.ops) (Lists.sum_nil c.ops (scale c.ops a.0 v.0)))
+      ∙ Remainders.reduced_of_value P F f not_constant monic (scale c.ops a.0 v.0) (scale_valid F.ring a.0 v.0 a.1 v.1.0, Lists.length_scale c.ops a.0 v.0 ∙ v.1.1)
+    where
+      V : Polynomial c
+      V = polynomial_of P F f not_constant monic v.0 v.1
+
+      v_is : remainder V ≡ v
+      v_is = same_value _ _ (Remainders.reduced_of_value P F f not_constant monic v.0 v.1)
+
+      product_is_valid : All c.Valid (product c.ops (a.0 ∷ []) v.0)
+      product_is_valid = product_valid F.ring (a.0 ∷ []) v.0 (alone P F.ring a) v.1.0
+
+  -- the value of its own coefficients at the generator
+  pub value_is_own_coefficients : (v : Element (values c f.0))
+      → value_at value_element_ops (map constant_element (elements c v.0 v.1.0)) generator_element ≡ v
+  value_is_own_coefficients v = value_at_generator_list (elements c v.0 v.1.0)
+      ∙ same_value _ _ (ap (λ w. reduced c.ops f.0 (trim c.ops w)) (elements_are c v.0 v.1.0) ∙ Remainders.reduced_of_value P F f not_constant monic v.0 v.1)
+    where
+      value_at_generator_list : (G : List (Element c)) → value_at value_element_ops (map constant_element G) generator_element
+          ≡ remainder (class_of P F.ring (map (value c) G) (values_valid c G))
+      value_at_generator_list G =
+          ap (λ w. value_at value_element_ops w generator_element) (sym (map_twice remainder (constant P F.ring) constant_element remainder_constant G))
+          ∙ sym (kept_value Q value_element_ops remainder remainder_zero remainder_add remainder_mul (map (constant P F.ring) G) (Generator.generator P F.ring))
+          ∙ ap remainder (Generator.value_at_generator P F.ring G (values_valid c G))
