@@ -9,3 +9,5 @@ pub mod Evaluation
 pub mod MinimalPolynomials
 pub mod RootExistence
 pub mod RootMaps
+pub mod Combinations
+pub mod Fields

@@ -1,7 +1,7 @@
 -- A root of f in a field A gives a map of the values modulo f into A that keeps the operations: v goes to the value of its own
 -- coefficients at the root.
 --     root_map h o a v     the value of v's coefficients at a
-use Rattle.std.proofs.Common.{◌≡◌, ℕ, ◌<◌, List, [], ◌∷◌, length, map, refl, ap, ap₂, sym, ◌∙◌}
+use Rattle.std.proofs.Common.{◌≡◌, ◌<◌, List, [], ◌∷◌, length, map, ap, ap₂, sym, ◌∙◌}
 use Rattle.alg_model.specs.Coefficients.{Ops, Carrier}
 use Rattle.alg_model.specs.Polynomials.{value_at, trim}
 use Rattle.alg_model.specs.Factors.{IsMonic, IsIrreducible}
