@@ -11,3 +11,4 @@ pub mod RootExistence
 pub mod RootMaps
 pub mod Combinations
 pub mod Fields
+pub mod FieldEmbeddings

@@ -29,7 +29,7 @@ kept_value o o' h z add mul [] a = z
 kept_value o o' h z add mul (x ∷ f) a =
     add x (o.mul a (value_at o f a)) ∙ ap (o'.add (h x)) (mul a (value_at o f a) ∙ ap (o'.mul (h a)) (kept_value o o' h z add mul f a))
 
-map_twice : {A B C : Type 0} (g : B → C) (h : A → B) (k : A → C) → ((a : A) → g (h a) ≡ k a) → (f : List A) → map g (map h f) ≡ map k f
+pub map_twice : {A B C : Type 0} (g : B → C) (h : A → B) (k : A → C) → ((a : A) → g (h a) ≡ k a) → (f : List A) → map g (map h f) ≡ map k f
 map_twice g h k e [] = refl
 map_twice g h k e (a ∷ f) = ap₂ ◌∷◌ (e a) (map_twice g h k e f)
 
