@@ -1,7 +1,7 @@
 -- The field with characteristic p and polynomial f as a finite field, and statements on two fields of one characteristic.
 --     IsModulus p f     f is monic and irreducible over the residues modulo p
 --     field_of p f      the field with this characteristic and this polynomial
-use Rattle.std.proofs.Common.{◌≡◌, ℕ, suc, ◌+◌, ◌%◌, ◌<◌, ◌≤◌, List, [], ◌∷◌, map, refl, ap, ap₂, sym, ◌∙◌, subst, arith}
+use Rattle.std.proofs.Common.{◌≡◌, ℕ, suc, ◌+◌, ◌%◌, ◌<◌, ◌≤◌, List, [], ◌∷◌, map, refl, ap, ap₂, sym, ◌∙◌, subst, arith, ◌*◌}
 use Rattle.std.proofs.Math.Nat.{one-mul, mod-eq_of_lt}
 use native.Mathlib.Nat.{mod-add-mod}
 use Rattle.alg_model.specs.Coefficients.{Ops, Carrier, power, residues, IsCharacteristic}
@@ -81,9 +81,11 @@ module _ (p : ℕ) (h : IsCharacteristic p) (f : List ℕ) (M : IsModulus p f) w
   laws = Values.value_laws (residues_propositional p) (residues_field p h) modulus M.irreducible.not_constant M.monic M.irreducible
 
   -- **a field of the model is a finite field**
+  pub finite_over_prime : FiniteField ops p (1 * degree_of (field_of p f))
+  finite_over_prime = values_finite (residues_propositional p) (residues_field p h) (residues_finite p h) modulus M.irreducible.not_constant M.monic M.irreducible
+
   pub finite : FiniteField ops p (degree_of (field_of p f))
-  finite = subst (FiniteField ops p) (one-mul (degree_of (field_of p f)))
-      (values_finite (residues_propositional p) (residues_field p h) (residues_finite p h) modulus M.irreducible.not_constant M.monic M.irreducible)
+  finite = subst (FiniteField ops p) (one-mul (degree_of (field_of p f))) finite_over_prime
 
   -- ---- constants
   abbrev pub of_residue : Element (residues p) → Element (field_values (field_of p f))

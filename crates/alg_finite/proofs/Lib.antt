@@ -12,3 +12,4 @@ pub mod RootMaps
 pub mod Combinations
 pub mod Fields
 pub mod FieldEmbeddings
+pub mod FieldFrobenius
