@@ -2,13 +2,13 @@
 -- the images of 1, x, x^2, ..: the two are the same.
 --     unit n k                 the list of n residues of which the k-th is one
 --     Composed H G             one after the other
-use Rattle.std.proofs.Common.{◌≡◌, ℕ, ◌<◌, List, [], length, map, replicate, slice_set, slice_index_or, All, refl, ap, ap₂, sym, ◌∙◌, subst, arith}
+use Rattle.std.proofs.Common.{◌≡◌, ℕ, ◌<◌, List, [], ◌∷◌, length, map, replicate, slice_set, slice_index_or, All, refl, ap, ap₂, sym, ◌∙◌, subst, arith, zero, suc}
 use Rattle.std.specs.List.{range_with_len}
-use Rattle.std.proofs.lemmas.List.{length-map, length-replicate, length-set, get_or-map, ext_get_or}
+use Rattle.std.proofs.lemmas.List.{length-map, length-replicate, length-set, get_or-map, ext_get_or, map-set}
 use Rattle.std.proofs.lemmas.List.FromFn.{length-map-range_with_len, get_or-map-range_with_len}
 use Rattle.alg_model.specs.Coefficients.{Ops, power, residues, mod_ops, IsCharacteristic}
 use Rattle.alg_model.specs.Polynomials.{value_at}
-use Rattle.alg_model.specs.Matrices.{combination}
+use Rattle.alg_model.specs.Matrices.{combination, unit_column}
 use Rattle.alg_model.specs.Maps.{Field, field_values, degree_of, generator, apply, powers, IsEmbedding}
 use Rattle.alg_rings.proofs.Elements.{Element, value, element_ops, value_injective, values_injective, elements, elements_are, values_valid}
 use Rattle.alg_rings.proofs.Homomorphisms.{Homomorphism, value_at-map, power-map}
@@ -31,6 +31,10 @@ composed {A} {B} {C} {o} {k} {l} {e} {d} H G = record {
   neg = λ x. ap d (H.neg x) ∙ G.neg (e x);
   is_zero = λ x. H.is_zero x ∙ G.is_zero (e x);
 }
+
+map_replicate : {A B : Type 0} (e : A → B) (n : ℕ) (a : A) → map e (replicate n a) ≡ replicate n (e a)
+map_replicate e zero a = refl
+map_replicate e (suc n) a = ap (λ w. e a ∷ w) (map_replicate e n a)
 
 -- ---- a field and its elements
 module _ (p : ℕ) (h : IsCharacteristic p) (f : List ℕ) (M : IsModulus p f) where
@@ -67,6 +71,11 @@ module _ (p : ℕ) (h : IsCharacteristic p) (f : List ℕ) (M : IsModulus p f) w
           ∙ length-replicate (degree_of (field_of p f)) (element_ops (residues_field p h).ring).zero,
     ),
   )
+
+  pub unit_is_column : (k : ℕ) → (unit_element k).0 ≡ unit_column (mod_ops p) (degree_of (field_of p f)) k
+  unit_is_column k =
+      map-set (value (residues p)) (replicate (degree_of (field_of p f)) (element_ops (residues_field p h).ring).zero) k (element_ops (residues_field p h).ring).one
+      ∙ ap (λ w. slice_set w k 1) (map_replicate (value (residues p)) (degree_of (field_of p f)) (element_ops (residues_field p h).ring).zero)
 
   pub digits_of_unit : (k : ℕ) → digits_of (unit_element k) ≡ unit k
   digits_of_unit k = values_injective (residues_propositional p) _ _ (elements_are (residues p) (unit_element k).0 (unit_element k).1.0)
@@ -213,7 +222,7 @@ module _ (p : ℕ) (h : IsCharacteristic p) (f : List ℕ) (M : IsModulus p f) (
         (λ a b. value_injective (propositional p h g N) _ _ (D.sums a.0 b.0 a.1 b.1))
         (λ a b. value_injective (propositional p h g N) _ _ (D.products a.0 b.0 a.1 b.1))
 
-    unit_image : (k : ℕ) → k < degree_of E → slice_index_or m k [] ≡ (function_of (unit_element p h f M k)).0
+    pub unit_image : (k : ℕ) → k < degree_of (field_of p f) → slice_index_or m k [] ≡ (function_of (unit_element p h f M k)).0
     unit_image k l =
         let lc : length cs ≡ length m = sym (length-map cs (value (field_values F))) ∙ ap length (elements_are (field_values F) m D.images) in
         ap (λ w. slice_index_or w k []) (sym (elements_are (field_values F) m D.images))
@@ -244,3 +253,10 @@ module _ (p : ℕ) (h : IsCharacteristic p) (f : List ℕ) (M : IsModulus p f) (
       products = λ a b va vb. apply_powers v (EO.mul (a, va) (b, vb)) ∙ ap (λ y. y.0) (root_function.mul (a, va) (b, vb))
           ∙ ap₂ (field_values F).ops.mul (sym (apply_powers v (a, va))) (sym (apply_powers v (b, vb)));
     }
+
+    -- that sends the generator to the root
+    pub apply_root_embedding : apply (field_of p g) (powers (field_of p g) v.0 (degree_of (field_of p f))) (generator (field_of p f)) ≡ v.0
+    apply_root_embedding = apply_powers v x ∙ ap (λ y. y.0)
+        (ap (λ y. value_at FO (map (of_residue p h g N) (digits_of p h f M y)) v) (sym (generator_is p h f M))
+        ∙ RootMaps.root_map_generator (residues_propositional p) (residues_field p h) (modulus p h f M) M.irreducible.not_constant M.monic
+        (laws p h g N) (of_residue_homomorphism p h g N) v root)

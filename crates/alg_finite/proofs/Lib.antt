@@ -13,3 +13,5 @@ pub mod Combinations
 pub mod Fields
 pub mod FieldEmbeddings
 pub mod FieldFrobenius
+pub mod LeastMembers
+pub mod Embeddings

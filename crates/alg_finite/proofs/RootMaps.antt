@@ -13,6 +13,8 @@ use Rattle.alg_rings.proofs.Elements.{Element, value, element_ops, values_inject
 use Rattle.alg_rings.proofs.Homomorphisms.{Homomorphism, trim-map}
 use Rattle.alg_rings.proofs.Divisors.{Polynomial, polynomial_ops}
 use Rattle.alg_fields.proofs.Modulo.{Same}
+use Rattle.alg_fields.proofs.Generator
+use Rattle.alg_fields.proofs.Remainders
 use Rattle.alg_fields.proofs.Points
 use Rattle.alg_fields.proofs.Quotients.{IsQuotient}
 use Rattle.alg_fields.proofs.ValueFields.{polynomial_of, values_quotient}
@@ -68,3 +70,21 @@ module _ {X : Type 0} {c : Carrier X} (P : IsPropositional c) (Fc : IsField c) (
     where
       W : Ops (Element (values c f.0))
       W = Values.value_element_ops P Fc f not_constant monic
+
+  -- **and that sends the generator to the root**
+  pub root_map_generator : root_map (Values.generator_element P Fc f not_constant monic) ≡ a
+  root_map_generator =
+      sym (by_class x x.1)
+      ∙ same_value (class x.0 x.1) own (Remainders.same_as_value P Fc f not_constant monic own)
+      ∙ trimmed_value (E.zero ∷ E.one ∷ []) (coefficients c own) (elements_are c own.0 own.1.0)
+      ∙ ap₂ (λ s t. o.add s (o.mul a t)) H.zero (Points.value_of_constant L.ring (h E.one) a ∙ H.one)
+      ∙ L.ring.zero_add (o.mul a o.one) ∙ Rings.mul_one L.ring a
+    where
+      E : Ops (Element c)
+      E = element_ops Fc.ring
+
+      own : Polynomial c
+      own = Generator.generator P Fc.ring
+
+      x : Element (values c f.0)
+      x = Values.generator_element P Fc f not_constant monic
