@@ -15,3 +15,4 @@ pub mod FieldEmbeddings
 pub mod FieldFrobenius
 pub mod LeastMembers
 pub mod Embeddings
+pub mod EmbeddingRoots

@@ -9,6 +9,7 @@
 --     identity_map K               1, x, .., x^(deg K - 1)
 --     powers F v n                 1, v, .., v^(n - 1)
 --     IsEmbedding E F m            m keeps one, sums and products
+--     IsMeet I J K L u v a b       what a and b send to one value of K comes, by u and v, from one value of L
 use Rattle.std.specs.Prelude.{◌≡◌, ℕ, List, [], ◌∷◌, length, map, All}
 use Rattle.std.specs.List.{range_with_len}
 use Rattle.alg_model.specs.Coefficients.{Carrier, power, mod_ops, residues, IsCharacteristic}
@@ -65,3 +66,8 @@ pub record IsEmbedding (E F : Field) (m : List (List ℕ)) : Type 0 where
       → apply F m ((field_values E).ops.add a b) ≡ (field_values F).ops.add (apply F m a) (apply F m b)
   pub products : (a b : List ℕ) → (field_values E).Valid a → (field_values E).Valid b
       → apply F m ((field_values E).ops.mul a b) ≡ (field_values F).ops.mul (apply F m a) (apply F m b)
+
+-- a takes I into K and b takes J into K; u takes L into I and v takes L into J
+abbrev pub IsMeet : Field → Field → Field → Field → List (List ℕ) → List (List ℕ) → List (List ℕ) → List (List ℕ) → Type 0
+IsMeet I J K L u v a b = (x y : List ℕ) → (field_values I).Valid x → (field_values J).Valid y → apply K a x ≡ apply K b y
+    → (z : List ℕ) × (field_values L).Valid z × (apply I u z ≡ x) × (apply J v z ≡ y)
