@@ -16,3 +16,4 @@ pub mod FieldFrobenius
 pub mod LeastMembers
 pub mod Embeddings
 pub mod EmbeddingRoots
+pub mod IrreducibleExistence
