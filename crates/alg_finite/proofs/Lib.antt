@@ -17,3 +17,5 @@ pub mod LeastMembers
 pub mod Embeddings
 pub mod EmbeddingRoots
 pub mod IrreducibleExistence
+pub mod LeastIrreducible
+pub mod Meets
