@@ -19,3 +19,4 @@ pub mod EmbeddingRoots
 pub mod IrreducibleExistence
 pub mod LeastIrreducible
 pub mod Meets
+pub mod Traces
