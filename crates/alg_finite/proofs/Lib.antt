@@ -20,3 +20,4 @@ pub mod IrreducibleExistence
 pub mod LeastIrreducible
 pub mod Meets
 pub mod Traces
+pub mod RelativeTraces

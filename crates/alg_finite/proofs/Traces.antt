@@ -63,6 +63,32 @@ module _ {A : Type 0} {o : Ops A} (R : RingLaws o) where
       ∙ ap₂ ◌⊕◌ (sums_same o d f (λ j. f (d * 0 + j)) (λ j. ap f (omega (arith, mul-zero d))))
       (total_blocks d e (λ k. f (d + k)) ∙ sums_same o e _ _ (λ i. sums_same o d _ _ (λ j. ap f (omega (arith, mul-suc d i)))))
 
+  pub product_swap : (n m : ℕ) (f : ℕ → ℕ → A) → product_over o n (λ i. product_over o m (f i)) ≡ product_over o m (λ j. product_over o n (λ i. f i j))
+  product_swap zero m f = sym (ones m)
+    where
+      ones : (m : ℕ) → product_over o m (λ _. I) ≡ I
+      ones zero = refl
+      ones (suc m) = R.one_mul _ ∙ ones m
+  product_swap (suc n) m f =
+      ap (λ w. product_over o m (f 0) ⊗ w) (product_swap n m (λ i. f (suc i))) ∙ sym (product_mul m (f 0) (λ j. product_over o n (λ i. f (suc i) j)))
+
+  pub product_append : (n m : ℕ) (f : ℕ → A) → product_over o (n + m) f ≡ product_over o n f ⊗ product_over o m (λ k. f (n + k))
+  product_append zero m f =
+      let e : 0 + m ≡ m = omega arith in ap (λ i. product_over o i f) e ∙ product_same o m f (λ k. f (0 + k)) (λ k. ap f (omega arith)) ∙ sym (R.one_mul _)
+  product_append (suc n) m f =
+      let e : suc n + m ≡ suc (n + m) = omega arith in
+      ap (λ i. product_over o i f) e ∙ ap (λ w. f 0 ⊗ w) (product_append n m (λ k. f (suc k))
+      ∙ ap (λ w. product_over o n (λ k. f (suc k)) ⊗ w) (product_same o m (λ k. f (suc (n + k))) (λ k. f (suc n + k)) (λ k. ap f (omega arith))))
+      ∙ sym (R.mul_assoc (f 0) (product_over o n (λ k. f (suc k))) (product_over o m (λ k. f (suc n + k))))
+
+  pub product_blocks : (d e : ℕ) (f : ℕ → A) → product_over o (d * e) f ≡ product_over o e (λ i. product_over o d (λ j. f (d * i + j)))
+  product_blocks d zero f = ap (λ n. product_over o n f) (mul-zero d)
+  product_blocks d (suc e) f =
+      let turn : d * suc e ≡ d + d * e = omega (arith, mul-suc d e) in
+      ap (λ n. product_over o n f) turn ∙ product_append d (d * e) f
+      ∙ ap₂ ◌⊗◌ (product_same o d f (λ j. f (d * 0 + j)) (λ j. ap f (omega (arith, mul-zero d))))
+      (product_blocks d e (λ k. f (d + k)) ∙ product_same o e _ _ (λ i. product_same o d _ _ (λ j. ap f (omega (arith, mul-suc d i)))))
+
 -- ---- as the model has them
 pub sum_all_is : {A : Type 0} (o : Ops A) (f : ℕ → A) (a n : ℕ) → sum_all o (map f (range_with_len a n)) ≡ total o n (λ i. f (a + i))
 sum_all_is o f a zero = refl
@@ -145,6 +171,14 @@ module _ {A : Type 0} {o : Ops A} (L : FieldLaws o) (q : ℕ) (T : (i : ℕ) →
       ∙ total_swap L.ring d e (λ j i. frobenius o q j (frobenius o q (d * i) a))
       ∙ sums_same o e _ _ (λ i. sums_same o d _ _ (λ j. sym (frobenius_add L.ring q j (d * i) a) ∙ ap (λ k. frobenius o q k a) (omega arith)))
       ∙ sym (total_blocks L.ring d e (λ k. frobenius o q k a))
+
+  pub norm_transitive : (d e : ℕ) (a : A)
+      → product_over o d (λ j. frobenius o q j (product_over o e (λ i. frobenius o q (d * i) a))) ≡ norm_of o q (d * e) a
+  norm_transitive d e a =
+      product_same o d _ _ (λ j. product-map (T j) e (λ i. frobenius o q (d * i) a))
+      ∙ product_swap L.ring d e (λ j i. frobenius o q j (frobenius o q (d * i) a))
+      ∙ product_same o e _ _ (λ i. product_same o d _ _ (λ j. sym (frobenius_add L.ring q j (d * i) a) ∙ ap (λ k. frobenius o q k a) (omega arith)))
+      ∙ sym (product_blocks L.ring d e (λ k. frobenius o q k a))
 
   -- ---- the powers of x part values by their traces, where x, x^q, .. are different
   module _ (e : ℕ) (x a : A) where
