@@ -21,3 +21,4 @@ pub mod LeastIrreducible
 pub mod Meets
 pub mod Traces
 pub mod RelativeTraces
+pub mod FieldTraces
