@@ -142,3 +142,12 @@ module _ (F : Field) (W : IsFiniteField F) where
       as_list k a va =
           trace_is (O.mul (power O (generator_element p W.characteristic F.polynomial N₁) k) (a, va))
           ∙ ap (λ y. trace F ((field_values F).ops.mul y a)) (power_value p W.characteristic F.polynomial N₁ (generator_element p W.characteristic F.polynomial N₁) k)
+
+  -- **the trace isn't identically zero**
+  pub trace_not_zero : (a : List ℕ) × (field_values F).Valid a × (trace F a ≢ (field_values F).ops.zero)
+  trace_not_zero =
+      let r : (a : Element (field_values F)) × (trace_of O (p ^ 1) (degree_of F) a ≢ O.zero) =
+      RelativeTraces.trace_not_zero (of_residue_homomorphism p W.characteristic F.polynomial N₁) (residues_finite p W.characteristic)
+      (finite p W.characteristic F.polynomial N₁) (degree_of F) size (generator_element p W.characteristic F.polynomial N₁)
+      (generator_distinct_over p W.characteristic F.polynomial N₁ 1 (degree_of F) size) (finite p W.characteristic F.polynomial N₁).positive in
+      (r.0.0, r.0.1, λ s. r.1 (value_injective (propositional p W.characteristic F.polynomial N₁) _ _ (trace_is r.0 ∙ s)))

@@ -22,3 +22,4 @@ pub mod Meets
 pub mod Traces
 pub mod RelativeTraces
 pub mod FieldTraces
+pub mod SubfieldTraces

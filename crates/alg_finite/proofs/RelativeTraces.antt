@@ -65,6 +65,13 @@ module _ {A B : Type 0} {k : Ops B} {o : Ops A} {h : B → A} (H : Homomorphism 
           ∙ Rings.mul_zero F.field.ring (power o x j))
           ∙ zero_trace
 
+  -- **the trace isn't identically zero**
+  pub trace_not_zero : (x : A) → Distinct (λ i. frobenius o (p ^ m) i x) e → 0 < e → (a : A) × (Traces.trace_of o (p ^ m) e a ≢ o.zero)
+  trace_not_zero x d l =
+      let r : (j : ℕ) × (j < e) × (Traces.trace_of o (p ^ m) e (o.mul (power o x j) o.one) ≢ o.zero) =
+      Traces.trace_parts_zero F.field (p ^ m) (powers_keep F m) e x o.one d l F.field.one_not_zero in
+      (o.mul (power o x r.0) o.one, r.2)
+
 -- **over B and then over a field with r members below B, where B has r^d: the trace and the norm at once**
 module _ {A B : Type 0} {k : Ops B} {o : Ops A} {h : B → A} (H : Homomorphism k o h) {p n : ℕ} (F : FiniteField o p n) (m d e : ℕ) (a : A) (b : B) where
   frobenius_block : (i : ℕ) → frobenius o (p ^ (m * d)) i a ≡ frobenius o (p ^ m) (d * i) a
