@@ -23,3 +23,4 @@ pub mod Traces
 pub mod RelativeTraces
 pub mod FieldTraces
 pub mod SubfieldTraces
+pub mod FieldMinimals
