@@ -12,9 +12,9 @@ use Rattle.alg_finite.proofs.FiniteValues.{residues_finite}
 use Rattle.alg_finite.proofs.Orbits.{Period, orbit_distinct}
 use Rattle.alg_finite.proofs.Traces.{trace_of, norm_of, sums_same, product_same, sum_all_is, product_all_is, total-map, product-map}
 use Rattle.alg_finite.proofs.RelativeTraces
-use Rattle.alg_finite.proofs.Fields.{IsModulus, modulus_of, field_of, propositional, field_is, ops, laws, of_residue, of_residue_homomorphism, power_value, finite}
-use Rattle.alg_finite.proofs.FieldEmbeddings.{generator_image, generator_element}
-use Rattle.alg_finite.proofs.FieldFrobenius.{field_root_period}
+use Rattle.alg_galois.proofs.Fields.{IsModulus, modulus_of, field_of, propositional, field_is, ops, laws, of_residue, of_residue_homomorphism, power_value, finite}
+use Rattle.alg_galois.proofs.FieldEmbeddings.{generator_image, generator_element}
+use Rattle.alg_galois.proofs.FieldFrobenius.{field_root_period}
 
 module _ (p : ℕ) (h : IsCharacteristic p) (g : List ℕ) (N : IsModulus p g) where
   abbrev FO : Ops (Element (field_values (field_of p g)))

@@ -9,11 +9,11 @@ use Rattle.alg_model.specs.Maps.{Field, IsFiniteField, field_values, degree_of, 
 use Rattle.alg_model.specs.Roots.{IsRoot}
 use Rattle.alg_rings.proofs.Elements.{value_injective}
 use Rattle.alg_finite.proofs.FiniteField.{frobenius, frobenius_none}
-use Rattle.alg_finite.proofs.Fields.{modulus_of, propositional, power_value, ops, laws}
-use Rattle.alg_finite.proofs.FieldFrobenius.{frobenius_returns_gcd, frobenius_returns_multiple}
-use Rattle.alg_finite.proofs.Embeddings.{apply_valid, embedding_injective, generator_is_value, comp_embedding, apply_comp}
-use Rattle.alg_finite.proofs.EmbeddingRoots
-use Rattle.alg_finite.proofs.LeastIrreducible.{field_exists}
+use Rattle.alg_galois.proofs.Fields.{modulus_of, propositional, power_value, ops, laws}
+use Rattle.alg_galois.proofs.FieldFrobenius.{frobenius_returns_gcd, frobenius_returns_multiple}
+use Rattle.alg_galois.proofs.Embeddings.{apply_valid, embedding_injective, generator_is_value, comp_embedding, apply_comp}
+use Rattle.alg_galois.proofs.EmbeddingRoots
+use Rattle.alg_galois.proofs.LeastIrreducible.{field_exists}
 
 module _ (K : Field) (W : IsFiniteField K) (w : List ℕ) (vw : (field_values K).Valid w) where
   -- fixed as a list and as an element

@@ -18,10 +18,10 @@ use Rattle.alg_divisors.proofs.Order.{order_by_total, order_by_same, nat_cmp_sam
 use Rattle.alg_finite.proofs.FiniteField.{frobenius}
 use Rattle.alg_finite.proofs.Evaluation.{coefficients, evaluate}
 use Rattle.alg_finite.proofs.LeastMembers.{least_member}
-use Rattle.alg_finite.proofs.Fields.{IsModulus, modulus_of, field_of, modulus, propositional, ops, of_residue, evaluate_constants, power_value, finite}
-use Rattle.alg_finite.proofs.FieldEmbeddings.{function_of, function_homomorphism, generator_image, generator_element, keeps_values, root_embedding, apply_root_embedding}
-use Rattle.alg_finite.proofs.FieldFrobenius
-use Rattle.alg_finite.proofs.Embeddings.{frobenius_map, of_two_fields, frobenius_embedding, apply_frobenius, apply_valid, embedding_injective, embedding_is_powers_of_image, embeddings_equal, generator_is_value, comp_embedding, apply_comp}
+use Rattle.alg_galois.proofs.Fields.{IsModulus, modulus_of, field_of, modulus, propositional, ops, of_residue, evaluate_constants, power_value, finite}
+use Rattle.alg_galois.proofs.FieldEmbeddings.{function_of, function_homomorphism, generator_image, generator_element, keeps_values, root_embedding, apply_root_embedding}
+use Rattle.alg_galois.proofs.FieldFrobenius
+use Rattle.alg_galois.proofs.Embeddings.{frobenius_map, of_two_fields, frobenius_embedding, apply_frobenius, apply_valid, embedding_injective, embedding_is_powers_of_image, embeddings_equal, generator_is_value, comp_embedding, apply_comp}
 
 -- ---- least roots
 lists_equal_or_not : (x y : List ℕ) → (x ≡ y) ⊎ (x ≢ y)

@@ -7,10 +7,10 @@ use Rattle.alg_model.specs.Maps.{Field, IsFiniteField, field_values, degree_of, 
 use Rattle.alg_rings.proofs.Elements.{Element, value_injective}
 use Rattle.alg_rings.proofs.Homomorphisms.{Homomorphism}
 use Rattle.alg_linear.proofs.Columns.{column_of_identity, length_identity}
-use Rattle.alg_finite.proofs.Fields.{IsModulus, modulus_of, field_of, at_one_characteristic, propositional, ops, power_value}
-use Rattle.alg_finite.proofs.FieldEmbeddings
-use Rattle.alg_finite.proofs.FieldEmbeddings.{composed, generator_element, unit_element, function_of, function_homomorphism, map_of, embedding_of, apply_map_of, map_is_powers, embedding_is_powers, image_injective}
-use Rattle.alg_finite.proofs.FieldFrobenius.{frobenius_keeps}
+use Rattle.alg_galois.proofs.Fields.{IsModulus, modulus_of, field_of, at_one_characteristic, propositional, ops, power_value}
+use Rattle.alg_galois.proofs.FieldEmbeddings
+use Rattle.alg_galois.proofs.FieldEmbeddings.{composed, generator_element, unit_element, function_of, function_homomorphism, map_of, embedding_of, apply_map_of, map_is_powers, embedding_is_powers, image_injective}
+use Rattle.alg_galois.proofs.FieldFrobenius.{frobenius_keeps}
 
 abbrev pub frobenius_map : Field → ℕ → List (List ℕ)
 frobenius_map F t = powers F (power (field_values F).ops (generator F) (F.characteristic ^ t)) (degree_of F)

@@ -11,11 +11,11 @@ use Rattle.alg_rings.proofs.Homomorphisms.{Homomorphism}
 use Rattle.alg_finite.proofs.FiniteField.{pow_one}
 use Rattle.alg_finite.proofs.Traces.{trace_of, norm_of}
 use Rattle.alg_finite.proofs.RelativeTraces
-use Rattle.alg_finite.proofs.Fields.{IsModulus, field_of, propositional, ops, power_value, finite}
-use Rattle.alg_finite.proofs.FieldEmbeddings.{function_of, function_homomorphism, generator_element}
-use Rattle.alg_finite.proofs.FieldTraces.{sum_value, product_value, generator_distinct_over}
-use Rattle.alg_finite.proofs.Embeddings.{of_two_fields, of_three_fields}
-use Rattle.alg_finite.proofs.EmbeddingRoots.{embedding_degree_divides}
+use Rattle.alg_galois.proofs.Fields.{IsModulus, field_of, propositional, ops, power_value, finite}
+use Rattle.alg_galois.proofs.FieldEmbeddings.{function_of, function_homomorphism, generator_element}
+use Rattle.alg_galois.proofs.FieldTraces.{sum_value, product_value, generator_distinct_over}
+use Rattle.alg_galois.proofs.Embeddings.{of_two_fields, of_three_fields}
+use Rattle.alg_galois.proofs.EmbeddingRoots.{embedding_degree_divides}
 
 -- a multiple by its quotient
 pub quotient_times : (d n : ℕ) → d ∣ n → n ≡ d * (n / d)

@@ -19,7 +19,7 @@ use Rattle.alg_divisors.proofs.Order.{order_by_total, order_by_same, nat_cmp_sam
 use Rattle.alg_finite.proofs.LeastMembers.{least_member}
 use Rattle.alg_finite.proofs.FiniteValues.{residues_finite}
 use Rattle.alg_finite.proofs.IrreducibleExistence.{irreducible_exists, finite_carrier}
-use Rattle.alg_finite.proofs.Fields.{IsModulus, field_of, finite}
+use Rattle.alg_galois.proofs.Fields.{IsModulus, field_of, finite}
 
 -- **a finite field of each degree exists**
 pub field_exists : (p d : ℕ) → IsCharacteristic p → 0 < d → (K : Field) × IsFiniteField K × (K.characteristic ≡ p) × (degree_of K ≡ d)

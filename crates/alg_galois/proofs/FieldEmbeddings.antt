@@ -19,7 +19,7 @@ use Rattle.alg_finite.proofs.Evaluation.{coefficients, evaluate}
 use Rattle.alg_finite.proofs.RootMaps
 use Rattle.alg_finite.proofs.Values
 use Rattle.alg_finite.proofs.Values.{map_twice}
-use Rattle.alg_finite.proofs.Fields.{IsModulus, field_of, modulus, propositional, ops, laws, of_residue, of_residue_homomorphism, generator_valid, power_value, residue_induction}
+use Rattle.alg_galois.proofs.Fields.{IsModulus, field_of, modulus, propositional, ops, laws, of_residue, of_residue_homomorphism, generator_valid, power_value, residue_induction}
 
 pub composed : {A B C : Type 0} {o : Ops A} {k : Ops B} {l : Ops C} {e : A → B} {d : B → C} → Homomorphism o k e → Homomorphism k l d
     → Homomorphism o l (λ a. d (e a))

@@ -17,8 +17,8 @@ use Rattle.alg_finite.proofs.Orbits.{Period, orbit_distinct, period_exists, peri
 use Rattle.alg_finite.proofs.Evaluation.{evaluate}
 use Rattle.alg_finite.proofs.MinimalPolynomials.{root_period, roots_are_orbit}
 use Rattle.alg_finite.proofs.RootExistence.{root_exists, degree_divides}
-use Rattle.alg_finite.proofs.Fields.{IsModulus, field_of, modulus, ops, laws, of_residue, of_residue_homomorphism, finite, finite_over_prime}
-use Rattle.alg_finite.proofs.FieldEmbeddings.{composed, generator_element, digits_of, determined, generator_image}
+use Rattle.alg_galois.proofs.Fields.{IsModulus, field_of, modulus, ops, laws, of_residue, of_residue_homomorphism, finite, finite_over_prime}
+use Rattle.alg_galois.proofs.FieldEmbeddings.{composed, generator_element, digits_of, determined, generator_image}
 
 -- ---- one field
 module _ (p : ℕ) (h : IsCharacteristic p) (g : List ℕ) (N : IsModulus p g) where

@@ -21,9 +21,9 @@ use Rattle.alg_finite.proofs.FiniteValues.{residues_finite}
 use Rattle.alg_finite.proofs.Orbits.{Orbit, orbit_of}
 use Rattle.alg_finite.proofs.Evaluation.{evaluate}
 use Rattle.alg_finite.proofs.MinimalPolynomials
-use Rattle.alg_finite.proofs.Fields.{IsModulus, modulus_of, field_of, propositional, field_is, of_residue_homomorphism, finite, evaluate_value}
-use Rattle.alg_finite.proofs.FieldEmbeddings.{function_homomorphism}
-use Rattle.alg_finite.proofs.Embeddings.{of_two_fields}
+use Rattle.alg_galois.proofs.Fields.{IsModulus, modulus_of, field_of, propositional, field_is, of_residue_homomorphism, finite, evaluate_value}
+use Rattle.alg_galois.proofs.FieldEmbeddings.{function_homomorphism}
+use Rattle.alg_galois.proofs.Embeddings.{of_two_fields}
 
 -- ---- over any carrier c with finitely many elements
 module _ {X Y : Type 0} {c : Carrier X} {d : Carrier Y} (P : IsPropositional c) (Fc : IsField c) (Q : IsPropositional d) (R : IsRing d) {p m n : ℕ}
