@@ -1,6 +1,6 @@
 -- Embeddings of finite fields as lists of images: what the model's definitions of apply, comp and identity keep.
 --     frobenius_map F t     the map of F into itself that sends a to a^(p^t)
-use Rattle.std.proofs.Common.{◌≡◌, ℕ, ◌^◌, List, [], refl, ap, sym, ◌∙◌, subst, arith}
+use Rattle.std.proofs.Common.{◌≡◌, ℕ, ◌^◌, List, [], ap, sym, ◌∙◌, subst, arith}
 use Rattle.std.proofs.lemmas.List.{length-map, get_or-map}
 use Rattle.alg_model.specs.Coefficients.{Ops, power, mod_ops, IsCharacteristic}
 use Rattle.alg_model.specs.Maps.{Field, IsFiniteField, field_values, degree_of, generator, apply, comp, identity_map, powers, IsEmbedding}
@@ -9,7 +9,7 @@ use Rattle.alg_rings.proofs.Homomorphisms.{Homomorphism}
 use Rattle.alg_linear.proofs.Columns.{column_of_identity, length_identity}
 use Rattle.alg_galois.proofs.Fields.{IsModulus, modulus_of, field_of, at_one_characteristic, propositional, ops, power_value}
 use Rattle.alg_galois.proofs.FieldEmbeddings
-use Rattle.alg_galois.proofs.FieldEmbeddings.{composed, generator_element, unit_element, function_of, function_homomorphism, map_of, embedding_of, apply_map_of, map_is_powers, embedding_is_powers, image_injective}
+use Rattle.alg_galois.proofs.FieldEmbeddings.{identity_homomorphism, composed, generator_element, unit_element, function_of, function_homomorphism, map_of, embedding_of, apply_map_of, map_is_powers, embedding_is_powers, image_injective}
 use Rattle.alg_galois.proofs.FieldFrobenius.{frobenius_keeps}
 
 abbrev pub frobenius_map : Field → ℕ → List (List ℕ)
@@ -39,20 +39,17 @@ module _ (F : Field) (W : IsFiniteField F) where
   abbrev FO : Ops (Element (field_values F))
   FO = ops F.characteristic W.characteristic F.polynomial (modulus_of F W)
 
-  itself : Homomorphism FO FO (λ a. a)
-  itself = record { zero = refl; one = refl; add = λ a b. refl; mul = λ a b. refl; neg = λ a. refl; is_zero = λ a. refl }
-
-  identity_is : identity_map F ≡ map_of F.characteristic W.characteristic F.polynomial N F.polynomial N itself
-  identity_is = map_is_powers F.characteristic W.characteristic F.polynomial N F.polynomial N itself (identity_map F)
+  identity_is : identity_map F ≡ map_of F.characteristic W.characteristic F.polynomial N F.polynomial N (identity_homomorphism FO)
+  identity_is = map_is_powers F.characteristic W.characteristic F.polynomial N F.polynomial N (identity_homomorphism FO) (identity_map F)
       (length_identity (mod_ops F.characteristic) (degree_of F))
       (λ k l. column_of_identity (mod_ops F.characteristic) (degree_of F) k l ∙ sym (FieldEmbeddings.unit_is_column F.characteristic W.characteristic F.polynomial N k))
 
   -- **the identity is an embedding, and gives each value back**
   pub identity_embedding : IsEmbedding F F (identity_map F)
-  identity_embedding = subst (IsEmbedding F F) (sym identity_is) (embedding_of F.characteristic W.characteristic F.polynomial N F.polynomial N itself)
+  identity_embedding = subst (IsEmbedding F F) (sym identity_is) (embedding_of F.characteristic W.characteristic F.polynomial N F.polynomial N (identity_homomorphism FO))
 
   pub apply_identity : (a : List ℕ) → (field_values F).Valid a → apply F (identity_map F) a ≡ a
-  apply_identity a va = ap (λ m. apply F m a) identity_is ∙ apply_map_of F.characteristic W.characteristic F.polynomial N F.polynomial N itself (a, va)
+  apply_identity a va = ap (λ m. apply F m a) identity_is ∙ apply_map_of F.characteristic W.characteristic F.polynomial N F.polynomial N (identity_homomorphism FO) (a, va)
 
   frobenius_is : (t : ℕ) → frobenius_map F t ≡ map_of F.characteristic W.characteristic F.polynomial N F.polynomial N
       (frobenius_keeps F.characteristic W.characteristic F.polynomial N t)

@@ -32,6 +32,9 @@ composed {A} {B} {C} {o} {k} {l} {e} {d} H G = record {
   is_zero = λ x. H.is_zero x ∙ G.is_zero (e x);
 }
 
+pub identity_homomorphism : {A : Type 0} (o : Ops A) → Homomorphism o o (λ a. a)
+identity_homomorphism o = record { zero = refl; one = refl; add = λ a b. refl; mul = λ a b. refl; neg = λ a. refl; is_zero = λ a. refl }
+
 map_replicate : {A B : Type 0} (e : A → B) (n : ℕ) (a : A) → map e (replicate n a) ≡ replicate n (e a)
 map_replicate e zero a = refl
 map_replicate e (suc n) a = ap (λ w. e a ∷ w) (map_replicate e n a)

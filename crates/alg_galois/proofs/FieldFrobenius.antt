@@ -18,7 +18,7 @@ use Rattle.alg_finite.proofs.Evaluation.{evaluate}
 use Rattle.alg_finite.proofs.MinimalPolynomials.{root_period, roots_are_orbit}
 use Rattle.alg_finite.proofs.RootExistence.{root_exists, degree_divides}
 use Rattle.alg_galois.proofs.Fields.{IsModulus, field_of, modulus, ops, laws, of_residue, of_residue_homomorphism, finite, finite_over_prime}
-use Rattle.alg_galois.proofs.FieldEmbeddings.{composed, generator_element, digits_of, determined, generator_image}
+use Rattle.alg_galois.proofs.FieldEmbeddings.{identity_homomorphism, composed, generator_element, digits_of, determined, generator_image}
 
 -- ---- one field
 module _ (p : ℕ) (h : IsCharacteristic p) (g : List ℕ) (N : IsModulus p g) where
@@ -145,3 +145,8 @@ module _ (p : ℕ) (h : IsCharacteristic p) (f : List ℕ) (M : IsModulus p f) (
     pub remainders_agree : (s t : ℕ) → ((a : Element (field_values (field_of p f))) → frobenius (ops p h g N) p s (e a) ≡ frobenius (ops p h g N) p t (e a))
         → s % degree_of (field_of p f) ≡ t % degree_of (field_of p f)
     remainders_agree s t r = powers_agree_on_root (e x) (generator_image p h f M g N H) s t (r x)
+
+-- **no fewer powers of Frobenius than the degree bring the generator back**
+module _ (p : ℕ) (h : IsCharacteristic p) (g : List ℕ) (N : IsModulus p g) where
+  pub generator_period : Period (ops p h g N) p (generator_element p h g N) (degree_of (field_of p g))
+  generator_period = field_root_period p h g N g N (generator_element p h g N) (generator_image p h g N g N (identity_homomorphism (ops p h g N)))

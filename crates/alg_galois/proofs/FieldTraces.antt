@@ -1,11 +1,10 @@
 -- Trace and norm of the fields of the model, over the prime field and over a subfield.
-use Rattle.std.proofs.Common.{◌≡◌, ◌≢◌, ℕ, zero, suc, ◌+◌, ◌*◌, ◌^◌, ◌<◌, List, refl, ap, ap₂, sym, ◌∙◌, subst, arith, zero-mul}
+use Rattle.std.proofs.Common.{◌≡◌, ◌≢◌, ℕ, zero, suc, ◌+◌, ◌*◌, ◌^◌, ◌<◌, List, ap, ap₂, sym, ◌∙◌, subst, arith, zero-mul}
 use Rattle.std.proofs.Math.Nat.{mul-lt-mul_of_pos_left}
 use Rattle.alg_model.specs.Coefficients.{Ops, power, residues, IsCharacteristic}
 use Rattle.alg_model.specs.Conjugates.{conjugates, sum_all, product_all, trace, norm}
 use Rattle.alg_model.specs.Maps.{Field, IsFiniteField, field_values, degree_of, generator, constant}
 use Rattle.alg_rings.proofs.Elements.{Element, value_injective, value_homomorphism}
-use Rattle.alg_rings.proofs.Homomorphisms.{Homomorphism}
 use Rattle.alg_finite.proofs.Enumerations.{Distinct}
 use Rattle.alg_finite.proofs.FiniteField.{frobenius, frobenius_of_power, pow_one}
 use Rattle.alg_finite.proofs.FiniteValues.{residues_finite}
@@ -13,8 +12,8 @@ use Rattle.alg_finite.proofs.Orbits.{Period, orbit_distinct}
 use Rattle.alg_finite.proofs.Traces.{trace_of, norm_of, sums_same, product_same, sum_all_is, product_all_is, total-map, product-map}
 use Rattle.alg_finite.proofs.RelativeTraces
 use Rattle.alg_galois.proofs.Fields.{IsModulus, modulus_of, field_of, propositional, field_is, ops, laws, of_residue, of_residue_homomorphism, power_value, finite}
-use Rattle.alg_galois.proofs.FieldEmbeddings.{generator_image, generator_element}
-use Rattle.alg_galois.proofs.FieldFrobenius.{field_root_period}
+use Rattle.alg_galois.proofs.FieldEmbeddings.{generator_element}
+use Rattle.alg_galois.proofs.FieldFrobenius.{generator_period}
 
 module _ (p : ℕ) (h : IsCharacteristic p) (g : List ℕ) (N : IsModulus p g) where
   abbrev FO : Ops (Element (field_values (field_of p g)))
@@ -42,20 +41,14 @@ module _ (p : ℕ) (h : IsCharacteristic p) (g : List ℕ) (N : IsModulus p g) w
       ∙ sym (product_all_is (field_values (field_of p g)).ops (λ i. power (field_values (field_of p g)).ops a.0 (q ^ i)) 0 e)
 
   -- ---- the generator has as many different conjugates as the degree
-  generator_period : Period (ops p h g N) p (generator_element p h g N) (degree_of (field_of p g))
-  generator_period = field_root_period p h g N g N (generator_element p h g N) (generator_image p h g N g N itself)
-    where
-      itself : Homomorphism (ops p h g N) (ops p h g N) (λ a. a)
-      itself = record { zero = refl; one = refl; add = λ a b. refl; mul = λ a b. refl; neg = λ a. refl; is_zero = λ a. refl }
-
   generator_distinct : Distinct (λ i. frobenius (ops p h g N) p i (generator_element p h g N)) (degree_of (field_of p g))
   generator_distinct i j l k r =
       let x = generator_element p h g N in
-      orbit_distinct (finite p h g N) 1 x n (subst (λ q. Period FO q x n) (sym (pow_one p)) generator_period) i j l k
+      orbit_distinct (finite p h g N) 1 x n (subst (λ q. Period FO q x n) (sym (pow_one p)) (generator_period p h g N)) i j l k
       (ap (λ q. frobenius FO q i x) (pow_one p) ∙ r ∙ ap (λ q. frobenius FO q j x) (sym (pow_one p)))
 
   pub generator_distinct_over : (m e : ℕ) → degree_of (field_of p g) ≡ m * e → Distinct (λ i. frobenius (ops p h g N) (p ^ m) i (generator_element p h g N)) e
-  generator_distinct_over zero e s i j l k r = absurd (let w : 0 < n = generator_period.positive in omega (arith, s, zero-mul e))
+  generator_distinct_over zero e s i j l k r = absurd (let w : 0 < n = (generator_period p h g N).positive in omega (arith, s, zero-mul e))
   generator_distinct_over (suc m) e s i j l k r =
       let x = generator_element p h g N in
       let positive : 0 < suc m = omega arith in

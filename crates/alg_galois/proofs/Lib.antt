@@ -8,3 +8,4 @@ pub mod Meets
 pub mod FieldTraces
 pub mod SubfieldTraces
 pub mod FieldMinimals
+pub mod FieldSizes
