@@ -10,7 +10,7 @@ use Prim.Native.Nat.{◌∣◌}
 use Rattle.alg_model.specs.Coefficients.{power, residues, IsCharacteristic}
 use Rattle.alg_model.specs.Polynomials.{value_at}
 use Rattle.alg_model.specs.Factors.{IsPolynomial, order_by}
-use Rattle.alg_model.specs.Maps.{Field, IsFiniteField, field_values, degree_of, generator, constants, apply, comp, powers, IsEmbedding}
+use Rattle.alg_model.specs.Maps.{Field, IsFiniteField, field_values, degree_of, generator, constants, apply, comp, powers, frobenius_map, IsEmbedding}
 use Rattle.alg_model.specs.Roots.{IsRoot, IsLeastRoot}
 use Rattle.alg_rings.proofs.Elements.{Element, value_injective}
 use Rattle.alg_rings.proofs.Homomorphisms.{power-map}
@@ -21,7 +21,7 @@ use Rattle.alg_finite.proofs.LeastMembers.{least_member}
 use Rattle.alg_galois.proofs.Fields.{IsModulus, modulus_of, field_of, modulus, propositional, ops, of_residue, evaluate_constants, power_value, finite}
 use Rattle.alg_galois.proofs.FieldEmbeddings.{function_of, function_homomorphism, generator_image, generator_element, keeps_values, root_embedding, apply_root_embedding}
 use Rattle.alg_galois.proofs.FieldFrobenius
-use Rattle.alg_galois.proofs.Embeddings.{frobenius_map, of_two_fields, frobenius_embedding, apply_frobenius, apply_valid, embedding_injective, embedding_is_powers_of_image, embeddings_equal, generator_is_value, comp_embedding, apply_comp}
+use Rattle.alg_galois.proofs.Embeddings.{of_two_fields, frobenius_embedding, apply_frobenius, apply_valid, embedding_injective, embedding_is_powers_of_image, embeddings_equal, generator_is_value, comp_embedding, apply_comp}
 
 -- ---- least roots
 lists_equal_or_not : (x y : List ℕ) → (x ≡ y) ⊎ (x ≢ y)

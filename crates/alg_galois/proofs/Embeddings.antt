@@ -1,9 +1,8 @@
 -- Embeddings of finite fields as lists of images: what the model's definitions of apply, comp and identity keep.
---     frobenius_map F t     the map of F into itself that sends a to a^(p^t)
 use Rattle.std.proofs.Common.{◌≡◌, ℕ, ◌^◌, List, [], ap, sym, ◌∙◌, subst, arith}
 use Rattle.std.proofs.lemmas.List.{length-map, get_or-map}
 use Rattle.alg_model.specs.Coefficients.{Ops, power, mod_ops, IsCharacteristic}
-use Rattle.alg_model.specs.Maps.{Field, IsFiniteField, field_values, degree_of, generator, apply, comp, identity_map, powers, IsEmbedding}
+use Rattle.alg_model.specs.Maps.{Field, IsFiniteField, field_values, degree_of, generator, apply, comp, identity_map, powers, frobenius_map, IsEmbedding}
 use Rattle.alg_rings.proofs.Elements.{Element, value_injective}
 use Rattle.alg_rings.proofs.Homomorphisms.{Homomorphism}
 use Rattle.alg_linear.proofs.Columns.{column_of_identity, length_identity}
@@ -11,9 +10,6 @@ use Rattle.alg_galois.proofs.Fields.{IsModulus, modulus_of, field_of, at_one_cha
 use Rattle.alg_galois.proofs.FieldEmbeddings
 use Rattle.alg_galois.proofs.FieldEmbeddings.{identity_homomorphism, composed, generator_element, unit_element, function_of, function_homomorphism, map_of, embedding_of, apply_map_of, map_is_powers, embedding_is_powers, image_injective}
 use Rattle.alg_galois.proofs.FieldFrobenius.{frobenius_keeps}
-
-abbrev pub frobenius_map : Field → ℕ → List (List ℕ)
-frobenius_map F t = powers F (power (field_values F).ops (generator F) (F.characteristic ^ t)) (degree_of F)
 
 -- ---- what holds of the polynomials of two or three fields over one characteristic holds of the fields
 pub of_two_fields : (T : Field → Field → Type 0)

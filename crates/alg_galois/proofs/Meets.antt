@@ -124,3 +124,22 @@ module _ (I J K L : Field) (RI : IsFiniteField I) (RJ : IsFiniteField J) (RK : I
 
   pub meet_is_gcd : IsMeet I J K L u v a b ↔ IsGcd (degree_of I) (degree_of J) (degree_of L)
   meet_is_gcd = (gcd_from_meet, meet_from_gcd)
+
+-- ---- one subfield
+-- **a field has a subfield of each degree that divides its own**
+pub subfield_exists : (F : Field) → IsFiniteField F → (d : ℕ) → d ∣ degree_of F
+    → (E : Field) × IsFiniteField E × (degree_of E ≡ d) × ((m : List (List ℕ)) × IsEmbedding E F m)
+subfield_exists F W zero k = absurd (omega (arith, eq-zero_of_zero-dvd k, degree_positive F W))
+subfield_exists F W (suc d) k =
+    let E : (E : Field) × IsFiniteField E × (E.characteristic ≡ F.characteristic) × (degree_of E ≡ suc d) = field_exists F.characteristic (suc d) W.characteristic (omega arith) in
+    let v : (v : List ℕ) × IsRoot F (constants F E.0.polynomial) v = EmbeddingRoots.root_exists E.0 F E.1 W E.2 (subst (λ n. n ∣ degree_of F) (sym E.3) k) in
+    (E.0, E.1, E.3, (powers F v.0 (degree_of E.0), (EmbeddingRoots.embedding_of_root E.0 F E.1 W E.2 v.0 v.1).0))
+
+-- **whose values are those that are their own power p^d**
+pub subfield_is_fixed : (E F : Field) → IsFiniteField E → IsFiniteField F → (m : List (List ℕ)) → IsEmbedding E F m
+    → (b : List ℕ) → (field_values F).Valid b
+    → (power (field_values F).ops b (F.characteristic ^ degree_of E) ≡ b) ↔ ((a : List ℕ) × (field_values E).Valid a × (apply F m a ≡ b))
+subfield_is_fixed E F V W m D b vb = (
+  (λ e. EmbeddingRoots.fixed_is_image E F V W m D b vb e),
+  (λ a. ap (λ y. power (field_values F).ops y (F.characteristic ^ degree_of E)) (sym a.2) ∙ EmbeddingRoots.image_fixed E F V W m D a.0 a.1 ∙ a.2),
+)

@@ -8,9 +8,10 @@
 --     comp F m n                   m followed by n, which ends in F
 --     identity_map K               1, x, .., x^(deg K - 1)
 --     powers F v n                 1, v, .., v^(n - 1)
+--     frobenius_map F t            the map of F into itself that sends a to a^(p^t)
 --     IsEmbedding E F m            m keeps one, sums and products
 --     IsMeet I J K L u v a b       what a and b send to one value of K comes, by u and v, from one value of L
-use Rattle.std.specs.Prelude.{◌≡◌, ℕ, List, [], ◌∷◌, length, map, All}
+use Rattle.std.specs.Prelude.{◌≡◌, ℕ, ◌^◌, List, [], ◌∷◌, length, map, All}
 use Rattle.std.specs.List.{range_with_len}
 use Rattle.alg_model.specs.Coefficients.{Carrier, power, mod_ops, residues, IsCharacteristic}
 use Rattle.alg_model.specs.Factors.{IsMonic, IsIrreducible}
@@ -56,6 +57,9 @@ identity_map K = (identity_matrix (mod_ops K.characteristic) (degree_of K)).colu
 
 abbrev pub powers : Field → List ℕ → ℕ → List (List ℕ)
 powers F v n = map (power (field_values F).ops v) (range_with_len 0 n)
+
+abbrev pub frobenius_map : Field → ℕ → List (List ℕ)
+frobenius_map F t = powers F (power (field_values F).ops (generator F) (F.characteristic ^ t)) (degree_of F)
 
 pub record IsEmbedding (E F : Field) (m : List (List ℕ)) : Type 0 where
   pub same_characteristic : E.characteristic ≡ F.characteristic
