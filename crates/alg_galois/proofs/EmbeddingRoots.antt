@@ -1,27 +1,27 @@
 -- Embeddings of finite fields and roots: an embedding exists where degrees divide, one for each root; two differ by a power of
 -- Frobenius; images are what a power of Frobenius fixes.
-use Rattle.std.proofs.Common.{◌≡◌, ◌≢◌, ◌⊎◌, ◌↔◌, ⊎_elim, inl, inr, ℕ, ◌%◌, ◌^◌, ◌<◌, List, [], ◌∷◌, refl, ap, ap₂, sym, ◌∙◌, subst, Ordering, Less, Equal, Greater, nat_cmp}
+use Rattle.std.proofs.Common.{◌≡◌, ◌≢◌, ◌⊎◌, ◌↔◌, ⊎_elim, inl, inr, ℕ, ◌%◌, ◌^◌, ◌<◌, List, [], ◌∷◌, refl, ap, ap₂, sym, ◌∙◌, subst, Ordering, Less, Equal, Greater, nat_cmp, ◌+◌, add_comm}
 use Rattle.std.specs.Ordering.{ordering_reverse}
 use Rattle.std.proofs.lemmas.Cmp.{nat_cmp_total, on_total}
 use Rattle.std.proofs.lemmas.Bool.{cases_eq}
 use Rattle.std.proofs.lemmas.Nat.Gcd.{dvd_of_mod-eq-zero, mod-eq-zero_of_dvd}
 use Rattle.std.proofs.Math.Nat.{mod-one}
 use Prim.Native.Nat.{◌∣◌}
-use Rattle.alg_model.specs.Coefficients.{power, residues, IsCharacteristic}
+use Rattle.alg_model.specs.Coefficients.{Ops, power, residues, IsCharacteristic}
 use Rattle.alg_model.specs.Polynomials.{value_at}
 use Rattle.alg_model.specs.Factors.{IsPolynomial, order_by}
-use Rattle.alg_model.specs.Maps.{Field, IsFiniteField, field_values, degree_of, generator, constants, apply, comp, powers, frobenius_map, IsEmbedding}
+use Rattle.alg_model.specs.Maps.{Field, IsFiniteField, field_values, degree_of, generator, constants, apply, comp, identity_map, powers, frobenius_map, IsEmbedding}
 use Rattle.alg_model.specs.Roots.{IsRoot, IsLeastRoot}
 use Rattle.alg_rings.proofs.Elements.{Element, value_injective}
 use Rattle.alg_rings.proofs.Homomorphisms.{power-map}
 use Rattle.alg_divisors.proofs.Order.{order_by_total, order_by_same, nat_cmp_same}
-use Rattle.alg_finite.proofs.FiniteField.{frobenius}
+use Rattle.alg_finite.proofs.FiniteField.{frobenius, frobenius_none, frobenius_add}
 use Rattle.alg_finite.proofs.Evaluation.{coefficients, evaluate}
 use Rattle.alg_finite.proofs.LeastMembers.{least_member}
-use Rattle.alg_galois.proofs.Fields.{IsModulus, modulus_of, field_of, modulus, propositional, ops, of_residue, evaluate_constants, power_value, finite}
+use Rattle.alg_galois.proofs.Fields.{IsModulus, modulus_of, field_of, modulus, propositional, ops, of_residue, evaluate_constants, power_value, finite, laws}
 use Rattle.alg_galois.proofs.FieldEmbeddings.{function_of, function_homomorphism, generator_image, generator_element, keeps_values, root_embedding, apply_root_embedding}
 use Rattle.alg_galois.proofs.FieldFrobenius
-use Rattle.alg_galois.proofs.Embeddings.{of_two_fields, frobenius_embedding, apply_frobenius, apply_valid, embedding_injective, embedding_is_powers_of_image, embeddings_equal, generator_is_value, comp_embedding, apply_comp}
+use Rattle.alg_galois.proofs.Embeddings.{of_two_fields, identity_embedding, apply_identity, frobenius_embedding, apply_frobenius, apply_valid, embedding_injective, embedding_is_powers_of_image, embeddings_equal, generator_is_value, comp_embedding, apply_comp}
 
 -- ---- least roots
 lists_equal_or_not : (x y : List ℕ) → (x ≡ y) ⊎ (x ≢ y)
@@ -220,6 +220,39 @@ module _ (E F : Field) (V : IsFiniteField E) (W : IsFiniteField F) where
             ∙ ap (λ y. y.0) (FieldFrobenius.powers_agree p h f M g N (function_homomorphism p h f M g N m D) s t e (a, va))
             ∙ power_value p h g N (function_of p h f M g N m D (a, va)) (p ^ t))
             E F V W D.same_characteristic D e va
+
+  -- **embeddings commute with powers of Frobenius**
+  pub frobenius_commutes : (m : List (List ℕ)) → IsEmbedding E F m → (t : ℕ) → comp F (frobenius_map E t) m ≡ comp F m (frobenius_map F t)
+  frobenius_commutes m D t = embeddings_equal E F V W (comp F (frobenius_map E t) m) (comp F m (frobenius_map F t))
+      (comp_embedding E E F V V W (frobenius_map E t) m (frobenius_embedding E V t) D) (after_frobenius_embedding m D t)
+      (λ a va. apply_comp E E F V V W (frobenius_map E t) m (frobenius_embedding E V t) D a va
+      ∙ ap (apply F m) (apply_frobenius E V t a va) ∙ apply_power m D a va (E.characteristic ^ t)
+      ∙ ap (λ q. power (field_values F).ops (apply F m a) (q ^ t)) D.same_characteristic ∙ sym (apply_after_frobenius m D t a va))
+
+-- ---- powers of Frobenius on one field
+module _ (F : Field) (W : IsFiniteField F) where
+  abbrev O : Ops (Element (field_values F))
+  O = ops F.characteristic W.characteristic F.polynomial (modulus_of F W)
+
+  power_is : (a : List ℕ) (va : (field_values F).Valid a) (t : ℕ) → (frobenius O F.characteristic t (a, va)).0 ≡ power (field_values F).ops a (F.characteristic ^ t)
+  power_is a va t = power_value F.characteristic W.characteristic F.polynomial (modulus_of F W) (a, va) (F.characteristic ^ t)
+
+  -- **the power 0 of Frobenius is the identity**
+  pub frobenius_zero : frobenius_map F 0 ≡ identity_map F
+  frobenius_zero = embeddings_equal F F W W (frobenius_map F 0) (identity_map F) (frobenius_embedding F W 0) (identity_embedding F W)
+      (λ a va. apply_frobenius F W 0 a va ∙ sym (power_is a va 0)
+      ∙ ap (λ y. y.0) (frobenius_none (laws F.characteristic W.characteristic F.polynomial (modulus_of F W)).ring F.characteristic (a, va)) ∙ sym (apply_identity F W a va))
+
+  -- **one power of Frobenius after another is that of the sum**
+  pub frobenius_sum : (s t : ℕ) → comp F (frobenius_map F s) (frobenius_map F t) ≡ frobenius_map F (s + t)
+  frobenius_sum s t = embeddings_equal F F W W (comp F (frobenius_map F s) (frobenius_map F t)) (frobenius_map F (s + t))
+      (after_frobenius_embedding F F W W (frobenius_map F s) (frobenius_embedding F W s) t) (frobenius_embedding F W (s + t))
+      (λ a va. apply_after_frobenius F F W W (frobenius_map F s) (frobenius_embedding F W s) t a va
+      ∙ ap (λ y. power (field_values F).ops y (F.characteristic ^ t)) (apply_frobenius F W s a va ∙ sym (power_is a va s))
+      ∙ sym (power_value F.characteristic W.characteristic F.polynomial (modulus_of F W) (frobenius O F.characteristic s (a, va)) (F.characteristic ^ t))
+      ∙ ap (λ y. y.0) (sym (frobenius_add (laws F.characteristic W.characteristic F.polynomial (modulus_of F W)).ring F.characteristic t s (a, va)))
+      ∙ ap (λ i. (frobenius O F.characteristic i (a, va)).0) (add_comm t s)
+      ∙ power_is a va (s + t) ∙ sym (apply_frobenius F W (s + t) a va))
 
 -- ---- three fields
 module _ (I J K : Field) (U : IsFiniteField I) (V : IsFiniteField J) (W : IsFiniteField K) (a b : List (List ℕ)) (A : IsEmbedding I K a) (B : IsEmbedding J K b) where
