@@ -35,15 +35,23 @@ first_below P decide (suc n) = ⊎_elim
     (λ f. inl (f.0, omega (arith, f.1), f.2, f.3))
     (λ none. ⊎_elim
     (λ h. inl (n, omega arith, h, λ j l k. none j l k))
-    (λ h. inr (λ i l k. ⊎_elim (λ e. h (subst P e k)) (λ m. none i m k) (eq-or-lt_of_le (let m : i ≤ n = omega arith in m))))
+    (λ h. inr (λ i l k. ⊎_elim (λ e. h (subst P e k)) (λ m. none i m k)
+    (eq-or-lt_of_le (let m : i ≤ n = omega arith in m))))
     (decide n))
     (first_below P decide n)
 
 -- f is distinct below n, or repeats itself
-pub repeats_or_distinct : {A : Type 0} → ((x y : A) → (x ≡ y) ⊎ (x ≢ y)) → (f : ℕ → A) (n : ℕ) → Repeats f n ⊎ Distinct f n
+pub repeats_or_distinct : {A : Type 0} → ((x y : A) → (x ≡ y) ⊎ (x ≢ y)) → (f : ℕ → A) (n : ℕ)
+    → Repeats f n ⊎ Distinct f n
 repeats_or_distinct decide f zero = inr (λ i j l h e. omega arith)
 repeats_or_distinct decide f (suc n) = ⊎_elim
-    (λ r. inl (record { first = r.first; second = r.second; rising = r.rising; within = omega (arith, r.within); same = r.same }))
+    (λ r. inl (record {
+      first = r.first;
+      second = r.second;
+      rising = r.rising;
+      within = omega (arith, r.within);
+      same = r.same;
+    }))
     (λ d. ⊎_elim
     (λ g. inl (record { first = g.0; second = n; rising = g.1; within = omega arith; same = g.2 }))
     (λ none. inr (λ i j l h e. ⊎_elim
@@ -82,7 +90,9 @@ module _ {A : Type 0} {q : ℕ} (M : Enumeration A q) where
       let l : M.index x < q = M.index_below x in
       ap₂ ◌∷◌
       (ap M.at (add-mul-mod_self_left (M.index x) q (number xs) ∙ mod-eq_of_lt l) ∙ M.at_index x)
-      (ap (digits (length xs)) (add-mul-div_left (M.index x) (number xs) (omega arith) ∙ ap (λ t. t + number xs) (div-eq_of_lt l) ∙ omega arith)
+      (ap (digits (length xs))
+      (add-mul-div_left (M.index x) (number xs) (omega arith)
+      ∙ ap (λ t. t + number xs) (div-eq_of_lt l) ∙ omega arith)
       ∙ digits_number xs)
 
   pub number_digits : (d i : ℕ) → 0 < q → i < q ^ d → number (digits d i) ≡ i
@@ -90,5 +100,6 @@ module _ {A : Type 0} {q : ℕ} (M : Enumeration A q) where
   number_digits zero i p l = omega (arith, pow-zero q)
   number_digits (suc d) i p l =
       let m : i < q ^ d * q = omega (arith, pow-suc q d) in
-      ap₂ (λ s t. s + q * t) (M.index_at (i % q) (mod-lt i p)) (number_digits d (i / q) p ((div-lt_iff_lt-mul p).1 m))
+      ap₂ (λ s t. s + q * t) (M.index_at (i % q) (mod-lt i p))
+      (number_digits d (i / q) p ((div-lt_iff_lt-mul p).1 m))
       ∙ mod-add-div i q

@@ -17,7 +17,8 @@ use Rattle.alg_fields.proofs.Points
 abbrev pub coefficients : {A : Type 0} (c : Carrier A) → Polynomial c → List (Element c)
 coefficients c f = elements c f.0 f.1.0
 
-abbrev pub evaluate : {X A : Type 0} (c : Carrier X) (h : Element c → A) (o : Ops A) → Polynomial c → A → A
+abbrev pub evaluate : {X A : Type 0} (c : Carrier X) (h : Element c → A) (o : Ops A) → Polynomial c
+    → A → A
 evaluate c h o f a = value_at o (map h (coefficients c f)) a
 
 module _ {X : Type 0} {c : Carrier X} (P : IsPropositional c) (R : IsRing c) where
@@ -31,17 +32,23 @@ module _ {X : Type 0} {c : Carrier X} (P : IsPropositional c) (R : IsRing c) whe
   V = value_homomorphism R
 
   pub length_coefficients : (f : Polynomial c) → length (coefficients c f) ≡ length f.0
-  length_coefficients f = sym (length-map (coefficients c f) (value c)) ∙ ap length (elements_are c f.0 f.1.0)
+  length_coefficients f = sym (length-map (coefficients c f) (value c))
+      ∙ ap length (elements_are c f.0 f.1.0)
 
-  pub leading_coefficients : (f : Polynomial c) → (leading (element_ops R) (coefficients c f)).0 ≡ leading c.ops f.0
-  leading_coefficients f = leading-map V (coefficients c f) ∙ ap (leading c.ops) (elements_are c f.0 f.1.0)
+  pub leading_coefficients : (f : Polynomial c)
+      → (leading (element_ops R) (coefficients c f)).0 ≡ leading c.ops f.0
+  leading_coefficients f = leading-map V (coefficients c f)
+      ∙ ap (leading c.ops) (elements_are c f.0 f.1.0)
 
-  pub coefficients_sum : (f g : Polynomial c) → coefficients c (Q.add f g) ≡ poly_sum (element_ops R) (coefficients c f) (coefficients c g)
+  pub coefficients_sum : (f g : Polynomial c)
+      → coefficients c (Q.add f g) ≡ poly_sum (element_ops R) (coefficients c f) (coefficients c g)
   coefficients_sum f g = values_injective P _ _
       (elements_are c _ _ ∙ sym (poly_sum-map V (coefficients c f) (coefficients c g)
       ∙ ap₂ (poly_sum c.ops) (elements_are c f.0 f.1.0) (elements_are c g.0 g.1.0)))
 
-  pub coefficients_product : (f g : Polynomial c) → coefficients c (Q.mul f g) ≡ poly_product (element_ops R) (coefficients c f) (coefficients c g)
+  pub coefficients_product : (f g : Polynomial c)
+      → coefficients c (Q.mul f g)
+      ≡ poly_product (element_ops R) (coefficients c f) (coefficients c g)
   coefficients_product f g = values_injective P _ _
       (elements_are c _ _ ∙ sym (poly_product-map V (coefficients c f) (coefficients c g)
       ∙ ap₂ (poly_product c.ops) (elements_are c f.0 f.1.0) (elements_are c g.0 g.1.0)))
@@ -51,22 +58,29 @@ module _ {X : Type 0} {c : Carrier X} (P : IsPropositional c) (R : IsRing c) whe
     abbrev pub polynomial_of : Polynomial c
     polynomial_of = (
       map (value c) F,
-      (values_valid c F, sym (trim-map V F) ∙ ap (map (value c)) (Trims.trimmed_from_leading E (element_laws P R).zero_test F l)),
+      (
+        values_valid c F,
+        sym (trim-map V F)
+            ∙ ap (map (value c)) (Trims.trimmed_from_leading E (element_laws P R).zero_test F l),
+      ),
     )
 
     pub coefficients_of : coefficients c polynomial_of ≡ F
     coefficients_of = values_injective P _ _ (elements_are c polynomial_of.0 polynomial_of.1.0)
 
   -- ---- values
-  module _ {A : Type 0} {o : Ops A} (L : RingLaws o) {h : Element c → A} (H : Homomorphism (element_ops R) o h) (a : A) where
-    pub evaluate_sum : (f g : Polynomial c) → evaluate c h o (Q.add f g) a ≡ o.add (evaluate c h o f a) (evaluate c h o g a)
+  module _ {A : Type 0} {o : Ops A} (L : RingLaws o) {h : Element c → A}
+      (H : Homomorphism (element_ops R) o h) (a : A) where
+    pub evaluate_sum : (f g : Polynomial c)
+        → evaluate c h o (Q.add f g) a ≡ o.add (evaluate c h o f a) (evaluate c h o g a)
     evaluate_sum f g =
         ap (λ w. value_at o (map h w) a) (coefficients_sum f g)
         ∙ ap (λ w. value_at o w a) (poly_sum-map H (coefficients c f) (coefficients c g))
         ∙ Points.value_of_trim L (sum o (map h (coefficients c f)) (map h (coefficients c g))) a
         ∙ Points.value_of_sum L (map h (coefficients c f)) (map h (coefficients c g)) a
 
-    pub evaluate_product : (f g : Polynomial c) → evaluate c h o (Q.mul f g) a ≡ o.mul (evaluate c h o f a) (evaluate c h o g a)
+    pub evaluate_product : (f g : Polynomial c)
+        → evaluate c h o (Q.mul f g) a ≡ o.mul (evaluate c h o f a) (evaluate c h o g a)
     evaluate_product f g =
         ap (λ w. value_at o (map h w) a) (coefficients_product f g)
         ∙ ap (λ w. value_at o w a) (poly_product-map H (coefficients c f) (coefficients c g))

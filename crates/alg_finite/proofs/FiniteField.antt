@@ -1,5 +1,6 @@
 -- Finite fields of characteristic p with p^n members, and the powers of Frobenius on them.
---     FiniteField o p n       the laws of a field, the prime p, p times one is zero, p^n members, a^(p^n) = a
+--     FiniteField o p n       the laws of a field, the prime p, p times one is zero, p^n members,
+-- a^(p^n) = a
 --     frobenius o q i a       a^(q^i)
 use Rattle.std.proofs.Common.{◌≡◌, ◌≢◌, ℕ, zero, suc, ◌+◌, ◌*◌, ◌/◌, ◌%◌, ◌^◌, ◌<◌, ◌≤◌, List, length, map, slice_index_or, AllPairs, All, ap, sym, ◌∙◌, arith, pow-suc, mul-zero, mul-suc}
 use Rattle.std.proofs.Math.Nat.{pow-zero, mul_comm, div-add-mod, one-le-pow, pow-le-pow_right, mul-le-mul_left}
@@ -52,16 +53,19 @@ above_one {A} {o} {p} {n} K =
 pub pow_mul : (p m i : ℕ) → (p ^ m) ^ i ≡ p ^ (m * i)
 pow_mul p m zero = pow-zero (p ^ m) ∙ sym (ap (λ j. p ^ j) (mul-zero m) ∙ pow-zero p)
 pow_mul p m (suc i) =
-    pow-suc (p ^ m) i ∙ ap (λ t. t * p ^ m) (pow_mul p m i) ∙ sym (pow-add p (m * i) m) ∙ ap (λ j. p ^ j) (sym (mul-suc m i))
+    pow-suc (p ^ m) i ∙ ap (λ t. t * p ^ m) (pow_mul p m i) ∙ sym (pow-add p (m * i) m)
+    ∙ ap (λ j. p ^ j) (sym (mul-suc m i))
 
 module _ {A : Type 0} {o : Ops A} (R : RingLaws o) where
   -- ---- powers of a -> a^q
   pub frobenius_none : (q : ℕ) (a : A) → frobenius o q 0 a ≡ a
   frobenius_none q a = ap (power o a) (pow-zero q) ∙ Powers.power_one R a
 
-  pub frobenius_add : (q i j : ℕ) (a : A) → frobenius o q (i + j) a ≡ frobenius o q i (frobenius o q j a)
+  pub frobenius_add : (q i j : ℕ) (a : A)
+      → frobenius o q (i + j) a ≡ frobenius o q i (frobenius o q j a)
   frobenius_add q i j a =
-      ap (power o a) (pow-add q i j ∙ mul_comm (q ^ i) (q ^ j)) ∙ sym (Powers.power_power R a (q ^ j) (q ^ i))
+      ap (power o a) (pow-add q i j ∙ mul_comm (q ^ i) (q ^ j))
+      ∙ sym (Powers.power_power R a (q ^ j) (q ^ i))
 
   pub frobenius_next : (q i : ℕ) (a : A) → frobenius o q (suc i) a ≡ frobenius o q i (power o a q)
   frobenius_next q i a =
@@ -74,23 +78,32 @@ module _ {A : Type 0} {o : Ops A} (R : RingLaws o) where
   frobenius_of_power p m i a = ap (power o a) (pow_mul p m i)
 
   -- what comes back after n comes back after each multiple of n
-  pub frobenius_multiple : (q n : ℕ) (a : A) → frobenius o q n a ≡ a → (k : ℕ) → frobenius o q (n * k) a ≡ a
+  pub frobenius_multiple : (q n : ℕ) (a : A) → frobenius o q n a ≡ a → (k : ℕ)
+      → frobenius o q (n * k) a ≡ a
   frobenius_multiple q n a e zero = ap (λ i. frobenius o q i a) (mul-zero n) ∙ frobenius_none q a
   frobenius_multiple q n a e (suc k) =
       ap (λ i. frobenius o q i a) (mul-suc n k) ∙ frobenius_add q (n * k) n a
       ∙ ap (frobenius o q (n * k)) e ∙ frobenius_multiple q n a e k
 
   -- so only the remainder counts
-  pub frobenius_remainder : (q n : ℕ) (a : A) → frobenius o q n a ≡ a → (i : ℕ) → frobenius o q i a ≡ frobenius o q (i % n) a
+  pub frobenius_remainder : (q n : ℕ) (a : A) → frobenius o q n a ≡ a → (i : ℕ)
+      → frobenius o q i a ≡ frobenius o q (i % n) a
   frobenius_remainder q n a e i =
-      ap (λ j. frobenius o q j a) (sym (div-add-mod i n) ∙ omega arith) ∙ frobenius_add q (i % n) (n * (i / n)) a
+      ap (λ j. frobenius o q j a) (sym (div-add-mod i n) ∙ omega arith)
+      ∙ frobenius_add q (i % n) (n * (i / n)) a
       ∙ ap (frobenius o q (i % n)) (frobenius_multiple q n a e (i / n))
 
 -- a polynomial has fewer roots than coefficients, for roots by number
-pub root_bound_at : {A : Type 0} {o : Ops A} → FieldLaws o → (f : List A) → leading o f ≢ o.zero → (at : ℕ → A) (n : ℕ) → Distinct at n
+pub root_bound_at : {A : Type 0} {o : Ops A} → FieldLaws o → (f : List A) → leading o f ≢ o.zero
+    → (at : ℕ → A) (n : ℕ) → Distinct at n
     → ((i : ℕ) → i < n → value_at o f (at i) ≡ o.zero) → n < length f
 root_bound_at {A} {o} F f l at n d z =
-    omega (arith, Roots.root_bound F.ring (λ x y e m. zero_from_product F x y e m) f l (map at (range_with_len 0 n)) distinct zeros, long)
+    omega (
+      arith,
+      Roots.root_bound F.ring (λ x y e m. zero_from_product F x y e m) f l
+          (map at (range_with_len 0 n)) distinct zeros,
+      long,
+    )
   where
     long : length (map at (range_with_len 0 n)) ≡ n
     long = length-map-range_with_len at 0 n
@@ -99,12 +112,14 @@ root_bound_at {A} {o} F f l at n d z =
     here i e h = get_or-map-range_with_len at 0 n i i e h (omega arith)
 
     distinct : AllPairs (λ a b. a ≢ b) (map at (range_with_len 0 n))
-    distinct i j e h k s = d i j h (omega (arith, long)) (sym (here i e (omega (arith, long))) ∙ s ∙ here j e (omega (arith, long)))
+    distinct i j e h k s = d i j h (omega (arith, long))
+        (sym (here i e (omega (arith, long))) ∙ s ∙ here j e (omega (arith, long)))
 
     zeros : All (λ a. value_at o f a ≡ o.zero) (map at (range_with_len 0 n))
     zeros i e h = ap (value_at o f) (here i e (omega (arith, long))) ∙ z i (omega (arith, long))
 
-module _ {A : Type 0} {o : Ops A} (F : FieldLaws o) {p : ℕ} (prime : IsPrime p) (characteristic : times o p o.one ≡ o.zero) where
+module _ {A : Type 0} {o : Ops A} (F : FieldLaws o) {p : ℕ} (prime : IsPrime p)
+    (characteristic : times o p o.one ≡ o.zero) where
   -- **each power of Frobenius keeps the operations**
   pub frobenius_homomorphism : (i : ℕ) → Homomorphism o o (frobenius o p i)
   frobenius_homomorphism i = field_homomorphism F F
@@ -119,6 +134,7 @@ module _ {A : Type 0} {o : Ops A} (F : FieldLaws o) {p : ℕ} (prime : IsPrime p
   pub power_homomorphism : (m : ℕ) → Homomorphism o o (λ a. power o a (p ^ m))
   power_homomorphism m = frobenius_homomorphism m
 
-  pub frobenius_cancel : (m i : ℕ) (x y : A) → frobenius o (p ^ m) i x ≡ frobenius o (p ^ m) i y → x ≡ y
+  pub frobenius_cancel : (m i : ℕ) (x y : A) → frobenius o (p ^ m) i x ≡ frobenius o (p ^ m) i y
+      → x ≡ y
   frobenius_cancel m i x y e = frobenius_injective (m * i) x y
       (sym (frobenius_of_power F.ring p m i x) ∙ e ∙ frobenius_of_power F.ring p m i y)

@@ -4,10 +4,12 @@ use Rattle.std.specs.Cmp.{IsTotalOrder}
 use Rattle.std.proofs.lemmas.Cmp.{tied_itself}
 use Rattle.alg_finite.proofs.Enumerations.{Enumeration}
 
-module _ {A : Type 0} {n : ℕ} (M : Enumeration A n) {cmp : A → A → Ordering} (T : IsTotalOrder cmp) (P : A → Type 0) (decide : (a : A) → P a ⊎ (P a → ⊥)) where
+module _ {A : Type 0} {n : ℕ} (M : Enumeration A n) {cmp : A → A → Ordering} (T : IsTotalOrder cmp)
+    (P : A → Type 0) (decide : (a : A) → P a ⊎ (P a → ⊥)) where
   -- a is the least of those with a number below i, or there is none
   abbrev LeastOrNone : ℕ → Type 0
-  LeastOrNone i = ((a : A) × P a × ((j : ℕ) → j < i → P (M.at j) → cmp (M.at j) a ≡ Less → ⊥)) ⊎ ((j : ℕ) → j < i → P (M.at j) → ⊥)
+  LeastOrNone i = ((a : A) × P a × ((j : ℕ) → j < i → P (M.at j) → cmp (M.at j) a ≡ Less → ⊥))
+      ⊎ ((j : ℕ) → j < i → P (M.at j) → ⊥)
 
   not_before_itself : (a : A) → cmp a a ≡ Less → ⊥
   not_before_itself a l = let t : cmp a a ≡ Equal = tied_itself T a in cc
@@ -49,16 +51,29 @@ module _ {A : Type 0} {n : ℕ} (M : Enumeration A n) {cmp : A → A → Orderin
   )
 
   none_more : (i : ℕ) → (P (M.at i) → ⊥) → LeastOrNone i → LeastOrNone (suc i)
-  none_more i n (inl a) = inl (a.0, a.1, λ j l k e. ⊎_elim (λ s. n (subst (λ t. P (M.at t)) s k)) (λ m. a.2 j m k e) (below_or_at i j l))
-  none_more i n (inr none) = inr (λ j l k. ⊎_elim (λ s. n (subst (λ t. P (M.at t)) s k)) (λ m. none j m k) (below_or_at i j l))
+  none_more i n (inl a) = inl (
+    a.0,
+    a.1,
+    λ j l k e. ⊎_elim (λ s. n (subst (λ t. P (M.at t)) s k)) (λ m. a.2 j m k e)
+        (below_or_at i j l),
+  )
+  none_more i n (inr none) =
+      inr (λ j l k. ⊎_elim (λ s. n (subst (λ t. P (M.at t)) s k)) (λ m. none j m k)
+      (below_or_at i j l))
 
   least_or_none : (i : ℕ) → LeastOrNone i
   least_or_none zero = inr (λ j l k. omega arith)
-  least_or_none (suc i) = ⊎_elim (λ k. one_more i k (least_or_none i)) (λ k. none_more i k (least_or_none i)) (decide (M.at i))
+  least_or_none (suc i) = ⊎_elim (λ k. one_more i k (least_or_none i))
+      (λ k. none_more i k (least_or_none i)) (decide (M.at i))
 
   -- **where there is a member with P, there is a least one**
   pub least_member : (b : A) → P b → (a : A) × P a × ((c : A) → P c → cmp c a ≡ Less → ⊥)
   least_member b k = ⊎_elim
-      (λ a. (a.0, a.1, λ c l e. a.2 (M.index c) (M.index_below c) (subst P (sym (M.at_index c)) l) (subst (λ t. cmp t a.0 ≡ Less) (sym (M.at_index c)) e)))
+      (λ a. (
+        a.0,
+        a.1,
+        λ c l e. a.2 (M.index c) (M.index_below c) (subst P (sym (M.at_index c)) l)
+            (subst (λ t. cmp t a.0 ≡ Less) (sym (M.at_index c)) e),
+      ))
       (λ none. absurd (none (M.index b) (M.index_below b) (subst P (sym (M.at_index b)) k)))
       (least_or_none n)

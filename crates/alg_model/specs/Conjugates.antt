@@ -1,8 +1,10 @@
 -- Conjugates of a value, and their sum and product.
 --     conjugates o q n a           a, a^q, a^(q^2), .., n of them
 --     sum_all o xs, product_all o xs     the sum and the product of a list
---     trace F a, norm F a          the sum and the product of a, a^p, .., a^(p^(deg F - 1)): constants of F
---     trace_over E F a, norm_over E F a     the same of a, a^q, .. for q = p^deg E, deg F / deg E of them
+--     trace F a, norm F a          the sum and the product of a, a^p, .., a^(p^(deg F - 1)):
+-- constants of F
+--     trace_over E F a, norm_over E F a     the same of a, a^q, .. for q = p^deg E, deg F / deg E
+-- of them
 use Rattle.std.specs.Prelude.{ℕ, ◌/◌, ◌^◌, List, [], ◌∷◌, map}
 use Rattle.std.specs.List.{range_with_len}
 use Rattle.alg_model.specs.Coefficients.{Ops, power}
@@ -21,14 +23,17 @@ module _ {A : Type 0} (o : Ops A) where
   product_all (x ∷ xs) = o.mul x (product_all xs)
 
 abbrev pub trace : Field → List ℕ → List ℕ
-trace F a = sum_all (field_values F).ops (conjugates (field_values F).ops F.characteristic (degree_of F) a)
+trace F a = sum_all (field_values F).ops
+    (conjugates (field_values F).ops F.characteristic (degree_of F) a)
 
 abbrev pub norm : Field → List ℕ → List ℕ
-norm F a = product_all (field_values F).ops (conjugates (field_values F).ops F.characteristic (degree_of F) a)
+norm F a = product_all (field_values F).ops
+    (conjugates (field_values F).ops F.characteristic (degree_of F) a)
 
 -- over a field E whose degree divides that of F
 abbrev pub conjugates_over : Field → Field → List ℕ → List (List ℕ)
-conjugates_over E F a = conjugates (field_values F).ops (F.characteristic ^ degree_of E) (degree_of F / degree_of E) a
+conjugates_over E F a = conjugates (field_values F).ops (F.characteristic ^ degree_of E)
+    (degree_of F / degree_of E) a
 
 abbrev pub trace_over : Field → Field → List ℕ → List ℕ
 trace_over E F a = sum_all (field_values F).ops (conjugates_over E F a)
