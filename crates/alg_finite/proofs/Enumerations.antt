@@ -62,19 +62,23 @@ repeats_or_distinct decide f (suc n) = ⊎_elim
 
 -- ---- lists of d members, by the digits of a number in base q
 module _ {A : Type 0} {q : ℕ} (M : Enumeration A q) where
+  -- the members at the d lowest digits of i in base q
   pub digits : ℕ → ℕ → List A
   digits zero i = []
   digits (suc d) i = M.at (i % q) ∷ digits d (i / q)
 
+  -- the number whose digits are the numbers of the members
   pub number : List A → ℕ
   number [] = 0
   number (x ∷ xs) = M.index x + q * number xs
 
+  -- there are d digits
   pub length_digits : (d i : ℕ) → length (digits d i) ≡ d
   unfolding digits
   length_digits zero i = refl
   length_digits (suc d) i = ap suc (length_digits d (i / q))
 
+  -- a number of n digits is below q^n
   pub number_below : (xs : List A) → number xs < q ^ length xs
   unfolding number
   number_below [] = omega (arith, pow-zero q)
@@ -83,6 +87,7 @@ module _ {A : Type 0} {q : ℕ} (M : Enumeration A q) where
       let m : q * suc (number xs) ≤ q * q ^ length xs = mul-le-mul_left q l in
       omega (arith, M.index_below x, m, pow-suc q (length xs), mul_comm q (q ^ length xs))
 
+  -- a list is the digits of its number
   pub digits_number : (xs : List A) → digits (length xs) (number xs) ≡ xs
   unfolding digits number
   digits_number [] = refl
@@ -95,6 +100,7 @@ module _ {A : Type 0} {q : ℕ} (M : Enumeration A q) where
       ∙ ap (λ t. t + number xs) (div-eq_of_lt l) ∙ omega arith)
       ∙ digits_number xs)
 
+  -- a number below q^d is that of its d digits
   pub number_digits : (d i : ℕ) → 0 < q → i < q ^ d → number (digits d i) ≡ i
   unfolding digits number
   number_digits zero i p l = omega (arith, pow-zero q)

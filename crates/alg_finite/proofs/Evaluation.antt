@@ -14,9 +14,11 @@ use Rattle.alg_rings.proofs.Homomorphisms.{Homomorphism, trim-map, poly_sum-map,
 use Rattle.alg_rings.proofs.Divisors.{Polynomial, polynomial_ops}
 use Rattle.alg_fields.proofs.Points
 
+-- the coefficients with their validity
 abbrev pub coefficients : {A : Type 0} (c : Carrier A) → Polynomial c → List (Element c)
 coefficients c f = elements c f.0 f.1.0
 
+-- the value at a of f's coefficients, taken to A
 abbrev pub evaluate : {X A : Type 0} (c : Carrier X) (h : Element c → A) (o : Ops A) → Polynomial c
     → A → A
 evaluate c h o f a = value_at o (map h (coefficients c f)) a
@@ -31,21 +33,25 @@ module _ {X : Type 0} {c : Carrier X} (P : IsPropositional c) (R : IsRing c) whe
   abbrev V : Homomorphism (element_ops R) c.ops (value c)
   V = value_homomorphism R
 
+  -- as many as the polynomial has
   pub length_coefficients : (f : Polynomial c) → length (coefficients c f) ≡ length f.0
   length_coefficients f = sym (length-map (coefficients c f) (value c))
       ∙ ap length (elements_are c f.0 f.1.0)
 
+  -- the last of them is the polynomial's
   pub leading_coefficients : (f : Polynomial c)
       → (leading (element_ops R) (coefficients c f)).0 ≡ leading c.ops f.0
   leading_coefficients f = leading-map V (coefficients c f)
       ∙ ap (leading c.ops) (elements_are c f.0 f.1.0)
 
+  -- a sum has the sums of coefficients
   pub coefficients_sum : (f g : Polynomial c)
       → coefficients c (Q.add f g) ≡ poly_sum (element_ops R) (coefficients c f) (coefficients c g)
   coefficients_sum f g = values_injective P _ _
       (elements_are c _ _ ∙ sym (poly_sum-map V (coefficients c f) (coefficients c g)
       ∙ ap₂ (poly_sum c.ops) (elements_are c f.0 f.1.0) (elements_are c g.0 g.1.0)))
 
+  -- a product has the coefficients of the product
   pub coefficients_product : (f g : Polynomial c)
       → coefficients c (Q.mul f g)
       ≡ poly_product (element_ops R) (coefficients c f) (coefficients c g)
@@ -55,6 +61,7 @@ module _ {X : Type 0} {c : Carrier X} (P : IsPropositional c) (R : IsRing c) whe
 
   -- ---- the polynomial with given coefficients, the last of them not zero
   module _ (F : List (Element c)) (l : leading (element_ops R) F ≢ (element_ops R).zero) where
+    -- as a polynomial
     abbrev pub polynomial_of : Polynomial c
     polynomial_of = (
       map (value c) F,
@@ -65,12 +72,14 @@ module _ {X : Type 0} {c : Carrier X} (P : IsPropositional c) (R : IsRing c) whe
       ),
     )
 
+    -- which has them for its coefficients
     pub coefficients_of : coefficients c polynomial_of ≡ F
     coefficients_of = values_injective P _ _ (elements_are c polynomial_of.0 polynomial_of.1.0)
 
   -- ---- values
   module _ {A : Type 0} {o : Ops A} (L : RingLaws o) {h : Element c → A}
       (H : Homomorphism (element_ops R) o h) (a : A) where
+    -- the value of a sum is the sum of values
     pub evaluate_sum : (f g : Polynomial c)
         → evaluate c h o (Q.add f g) a ≡ o.add (evaluate c h o f a) (evaluate c h o g a)
     evaluate_sum f g =
@@ -79,6 +88,7 @@ module _ {X : Type 0} {c : Carrier X} (P : IsPropositional c) (R : IsRing c) whe
         ∙ Points.value_of_trim L (sum o (map h (coefficients c f)) (map h (coefficients c g))) a
         ∙ Points.value_of_sum L (map h (coefficients c f)) (map h (coefficients c g)) a
 
+    -- the value of a product is the product of values
     pub evaluate_product : (f g : Polynomial c)
         → evaluate c h o (Q.mul f g) a ≡ o.mul (evaluate c h o f a) (evaluate c h o g a)
     evaluate_product f g =

@@ -13,6 +13,7 @@ equal_or_not {A} {o} R x y = ⊎_elim
     (Rings.zero_or_not o R.zero_test (o.add x (o.neg y)))
 
 module _ {A B : Type 0} {o : Ops A} {o' : Ops B} {h : A → B} where
+  -- a map that keeps the operations of rings and tells zero is injective
   pub injective : RingLaws o → RingLaws o' → Homomorphism o o' h → (x y : A) → h x ≡ h y → x ≡ y
   injective R R' H x y e = Rings.same_from_difference R x y
       ((R.zero_test (o.add x (o.neg y))).0
@@ -32,6 +33,7 @@ module _ {A B : Type 0} {o : Ops A} {o' : Ops B} {h : A → B} where
         F'.one_not_zero (sym (sym (mul x i.0) ∙ ap h i.1 ∙ one) ∙ ap (λ t. o'.mul t (h i.0)) e
         ∙ Rings.zero_mul F'.ring (h i.0))
 
+    -- **between fields it is enough to keep one, sums and products**
     pub field_homomorphism : Homomorphism o o' h
     field_homomorphism = record {
       zero = kept_zero;

@@ -28,21 +28,26 @@ pub record FiniteField {A : Type 0} (o : Ops A) (p n : ℕ) : Type 0 where
   pub members : Enumeration A (p ^ n)
   pub fixed : (a : A) → power o a (p ^ n) ≡ a
 
+-- the power q^i
 abbrev pub frobenius : {A : Type 0} → Ops A → ℕ → ℕ → A → A
 frobenius o q i a = power o a (q ^ i)
 
+-- p^1 = p
 pub pow_one : (p : ℕ) → p ^ 1 ≡ p
 pow_one p = sym (first_power p)
 
+-- powers of what is above 1 are positive
 pub pow_positive : (p i : ℕ) → 1 < p → 0 < p ^ i
 pow_positive p i l = one-le-pow i p (omega arith)
 
+-- and rise
 pub pow_strict : (p i j : ℕ) → 1 < p → i < j → p ^ i < p ^ j
 pow_strict p i j l h =
     let a : p ^ suc i ≤ p ^ j = pow-le-pow_right (omega arith) h in
     let b : p ^ i * 2 ≤ p ^ i * p = mul-le-mul_left (p ^ i) l in
     omega (arith, pow-suc p i, pow_positive p i l)
 
+-- a finite field has more than one member
 pub above_one : {A : Type 0} {o : Ops A} {p n : ℕ} → FiniteField o p n → 1 < p ^ n
 above_one {A} {o} {p} {n} K =
     let l : 1 < p = K.prime.above_one in
@@ -61,19 +66,23 @@ module _ {A : Type 0} {o : Ops A} (R : RingLaws o) where
   pub frobenius_none : (q : ℕ) (a : A) → frobenius o q 0 a ≡ a
   frobenius_none q a = ap (power o a) (pow-zero q) ∙ Powers.power_one R a
 
+  -- i + j powers of Frobenius are j and then i
   pub frobenius_add : (q i j : ℕ) (a : A)
       → frobenius o q (i + j) a ≡ frobenius o q i (frobenius o q j a)
   frobenius_add q i j a =
       ap (power o a) (pow-add q i j ∙ mul_comm (q ^ i) (q ^ j))
       ∙ sym (Powers.power_power R a (q ^ j) (q ^ i))
 
+  -- one more power of Frobenius, taken first
   pub frobenius_next : (q i : ℕ) (a : A) → frobenius o q (suc i) a ≡ frobenius o q i (power o a q)
   frobenius_next q i a =
       ap (power o a) (pow-suc q i ∙ mul_comm (q ^ i) q) ∙ sym (Powers.power_power R a q (q ^ i))
 
+  -- one more power of Frobenius, taken last
   pub frobenius_last : (q i : ℕ) (a : A) → frobenius o q (suc i) a ≡ power o (frobenius o q i a) q
   frobenius_last q i a = ap (power o a) (pow-suc q i) ∙ sym (Powers.power_power R a (q ^ i) q)
 
+  -- i powers of a -> a^(p^m) are m * i of a -> a^p
   pub frobenius_of_power : (p m i : ℕ) (a : A) → frobenius o (p ^ m) i a ≡ frobenius o p (m * i) a
   frobenius_of_power p m i a = ap (power o a) (pow_mul p m i)
 
@@ -127,6 +136,7 @@ module _ {A : Type 0} {o : Ops A} (F : FieldLaws o) {p : ℕ} (prime : IsPrime p
       (Frobenius.power_of_sum_iterated F.ring p prime characteristic i)
       (λ x y. Powers.power_product F.ring x y (p ^ i))
 
+  -- a power of Frobenius is injective
   pub frobenius_injective : (i : ℕ) (x y : A) → frobenius o p i x ≡ frobenius o p i y → x ≡ y
   frobenius_injective i = injective F.ring F.ring (frobenius_homomorphism i)
 
@@ -134,6 +144,7 @@ module _ {A : Type 0} {o : Ops A} (F : FieldLaws o) {p : ℕ} (prime : IsPrime p
   pub power_homomorphism : (m : ℕ) → Homomorphism o o (λ a. power o a (p ^ m))
   power_homomorphism m = frobenius_homomorphism m
 
+  -- and so is one of a -> a^q
   pub frobenius_cancel : (m i : ℕ) (x y : A) → frobenius o (p ^ m) i x ≡ frobenius o (p ^ m) i y
       → x ≡ y
   frobenius_cancel m i x y e = frobenius_injective (m * i) x y

@@ -27,6 +27,7 @@ use Rattle.alg_finite.proofs.Values
 
 -- **the residues are a finite field**
 module _ (p : ℕ) (h : IsCharacteristic p) where
+  -- the residues modulo a characteristic p are a finite field with p members
   pub residues_finite : FiniteField (element_ops (residues_field p h).ring) p 1
   residues_finite = record {
     field = element_field (residues_propositional p) (residues_field p h);

@@ -70,6 +70,7 @@ module _ {X : Type 0} {c : Carrier X} (P : IsPropositional c) (Fc : IsField c) {
       )
 
   module _ (a : A) (O : Orbit o h (p ^ m) a) where
+    -- the polynomial of the orbit isn't zero
     pub leading_polynomial_not_zero : leading (element_ops Fc.ring) O.polynomial
         ≢ (element_ops Fc.ring).zero
     leading_polynomial_not_zero z =
@@ -79,9 +80,11 @@ module _ {X : Type 0} {c : Carrier X} (P : IsPropositional c) (Fc : IsField c) {
     abbrev pub minimal : Polynomial c
     minimal = polynomial_of P Fc.ring O.polynomial leading_polynomial_not_zero
 
+    -- its degree is the number of members of the orbit
     pub length_minimal : length minimal.0 ≡ suc O.size
     length_minimal = length-map O.polynomial (value c) ∙ length_orbit_polynomial H K F a O
 
+    -- it is monic
     pub minimal_monic : IsMonic c minimal.0
     minimal_monic =
         sym (leading_coefficients P Fc.ring minimal)
@@ -89,6 +92,7 @@ module _ {X : Type 0} {c : Carrier X} (P : IsPropositional c) (Fc : IsField c) {
         (coefficients_of P Fc.ring O.polynomial leading_polynomial_not_zero)
         ∙ leading_orbit_polynomial H K F a O)
 
+    -- its value at b is the product of b less the members of the orbit
     pub minimal_value : (b : A)
         → evaluate c h o minimal b ≡ value_at o (linear_product o (orbit o (p ^ m) O.size a)) b
     minimal_value b =
@@ -96,6 +100,7 @@ module _ {X : Type 0} {c : Carrier X} (P : IsPropositional c) (Fc : IsField c) {
         (coefficients_of P Fc.ring O.polynomial leading_polynomial_not_zero)
         ∙ ap (λ w. value_at o w b) O.image
 
+    -- it vanishes at a
     pub minimal_vanishes : evaluate c h o minimal a ≡ o.zero
     minimal_vanishes =
         ap (λ w. value_at o (map h w) a)

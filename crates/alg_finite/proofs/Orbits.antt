@@ -23,6 +23,7 @@ use Rattle.alg_finite.proofs.FieldMaps.{equal_or_not, injective}
 use Rattle.alg_finite.proofs.FiniteField.{FiniteField, frobenius, frobenius_none, frobenius_next, frobenius_add, frobenius_of_power, frobenius_multiple, frobenius_remainder, power_homomorphism, frobenius_cancel, root_bound_at, above_one}
 use Rattle.alg_finite.proofs.Extensions.{fixed_is_image, frobenius_of_value}
 
+-- a, a^q, .., d of them
 abbrev pub orbit : {A : Type 0} → Ops A → ℕ → ℕ → A → List A
 orbit o q zero a = []
 orbit o q (suc d) a = a ∷ orbit o q d (power o a q)
@@ -34,6 +35,7 @@ pub record Period {A : Type 0} (o : Ops A) (q : ℕ) (a : A) (d : ℕ) : Type 0 
 
 -- ---- products of x - a
 module _ {A : Type 0} {o : Ops A} (R : RingLaws o) where
+  -- a product of n factors x - a has n + 1 coefficients
   pub length_linear_product : (roots : List A)
       → length (linear_product o roots) ≡ suc (length roots)
   length_linear_product [] = refl
@@ -48,6 +50,7 @@ module _ {A : Type 0} {o : Ops A} (R : RingLaws o) where
         Lists.length_shift o f (omega (arith, length_linear_product roots)),
       )
 
+  -- it is monic
   pub leading_linear_product : (roots : List A) → leading o (linear_product o roots) ≡ o.one
   leading_linear_product [] = refl
   leading_linear_product (a ∷ roots) =
@@ -62,6 +65,7 @@ module _ {A : Type 0} {o : Ops A} (R : RingLaws o) where
       ))
       ∙ Trims.leading_shift o f ∙ leading_linear_product roots
 
+  -- the last factor may stand first
   pub linear_product_last : (roots : List A) (a : A)
       → linear_product o (roots ++ a ∷ []) ≡ linear_product o (a ∷ roots)
   linear_product_last [] a = refl
@@ -69,6 +73,7 @@ module _ {A : Type 0} {o : Ops A} (R : RingLaws o) where
       ap (product o (linear o b)) (linear_product_last roots a)
       ∙ Lists.product_left_comm R (linear o b) (linear o a) (linear_product o roots)
 
+  -- each a is a root of a product with the factor x - a
   pub root_of_first : (a : A) (roots : List A)
       → value_at o (linear_product o (a ∷ roots)) a ≡ o.zero
   root_of_first a roots =
@@ -82,6 +87,7 @@ module _ {A : Type 0} {o : Ops A} (R : RingLaws o) where
   length_orbit q zero a = refl
   length_orbit q (suc d) a = ap suc (length_orbit q d (power o a q))
 
+  -- the i-th member is a^(q^i)
   pub orbit_at : (q d : ℕ) (a : A) (i : ℕ) (e : A) → i < d
       → slice_index_or (orbit o q d a) i e ≡ frobenius o q i a
   orbit_at q zero a i e l = absurd (omega arith)
@@ -131,6 +137,7 @@ module _ {A : Type 0} {o : Ops A} {p n : ℕ} (F : FiniteField o p n) (m : ℕ) 
       ∙ ap (λ j. frobenius o p j a) (mul_comm m n)
       ∙ frobenius_multiple F.field.ring p n a (F.fixed a) m
 
+  -- each a has a period
   pub period_exists : (d : ℕ) × Period o (p ^ m) a d
   period_exists = ⊎_elim
       (λ f. (
@@ -200,6 +207,7 @@ module _ {A B : Type 0} {k : Ops B} {o : Ops A} {h : B → A} (H : Homomorphism 
           record { size = suc d; period = D; polynomial = g.0; image = g.1 }
 
   module _ (a : A) (O : Orbit o h (p ^ m) a) where
+    -- its degree is the size of the orbit
     pub length_orbit_polynomial : length O.polynomial ≡ suc O.size
     length_orbit_polynomial = omega (
       arith,
@@ -209,11 +217,13 @@ module _ {A B : Type 0} {k : Ops B} {o : Ops A} {h : B → A} (H : Homomorphism 
       length_orbit F.field.ring (p ^ m) O.size a,
     )
 
+    -- it is monic
     pub leading_orbit_polynomial : leading k O.polynomial ≡ k.one
     leading_orbit_polynomial = injective K.field.ring F.field.ring H (leading k O.polynomial) k.one
         (leading-map H O.polynomial ∙ ap (leading o) O.image
         ∙ leading_linear_product F.field.ring (orbit o (p ^ m) O.size a) ∙ sym H.one)
 
+    -- it vanishes at a
     pub orbit_polynomial_vanishes : value_at o (map h O.polynomial) a ≡ o.zero
     orbit_polynomial_vanishes = ap (λ f. value_at o f a) O.image ∙ at O.size O.period.positive
       where
@@ -230,6 +240,7 @@ module _ {A B : Type 0} {k : Ops B} {o : Ops A} {h : B → A} (H : Homomorphism 
         ∙ ap (frobenius o (p ^ m) i) e ∙ frobenius_of_power F.field.ring p m i o.zero
         ∙ (power_homomorphism F.field F.prime F.characteristic (m * i)).zero
 
+    -- so it has more coefficients than the orbit has members
     pub vanishing_is_long : (f : List B) → leading k f ≢ k.zero → value_at o (map h f) a ≡ o.zero
         → O.size < length f
     vanishing_is_long f l e =

@@ -34,6 +34,7 @@ module _ {A B : Type 0} {k : Ops B} {o : Ops A} {h : B → A} (H : Homomorphism 
       (Traces.trace_fixed F.field (p ^ m) (powers_keep F m) e a (all_back a)
       (power_homomorphism F.field F.prime F.characteristic m))
 
+  -- norms lie in B
   pub norm_is_image : (a : A) → (b : B) × (h b ≡ Traces.norm_of o (p ^ m) e a)
   norm_is_image a = fixed_is_image H K F.field (above_one K) (Traces.norm_of o (p ^ m) e a)
       (Traces.norm_fixed F.field (p ^ m) (powers_keep F m) e a (all_back a)
@@ -45,6 +46,7 @@ module _ {A B : Type 0} {k : Ops B} {o : Ops A} {h : B → A} (H : Homomorphism 
       ≡ o.add (Traces.trace_of o (p ^ m) e a) (Traces.trace_of o (p ^ m) e b)
   trace_sum a b = Traces.trace_of_sum F.field (p ^ m) (powers_keep F m) e a b
 
+  -- a member of B comes out of a trace
   pub trace_multiple : (c : B) (a : A)
       → Traces.trace_of o (p ^ m) e (o.mul (h c) a) ≡ o.mul (h c) (Traces.trace_of o (p ^ m) e a)
   trace_multiple c a = Traces.trace_of_multiple F.field (p ^ m) (powers_keep F m) e (h c) a
@@ -115,6 +117,7 @@ module _ {A B : Type 0} {k : Ops B} {o : Ops A} {h : B → A} (H : Homomorphism 
       ∙ sym (frobenius_of_power F.field.ring p m (d * i) a
       ∙ ap (λ j. frobenius o p j a) (sym (mul_assoc m d i)))
 
+  -- the trace of the trace
   pub trace_of_trace : h b ≡ Traces.trace_of o (p ^ (m * d)) e a
       → h (Traces.trace_of k (p ^ m) d b) ≡ Traces.trace_of o (p ^ m) (d * e) a
   trace_of_trace s =
@@ -124,6 +127,7 @@ module _ {A B : Type 0} {k : Ops B} {o : Ops A} {h : B → A} (H : Homomorphism 
       ∙ ap (frobenius o (p ^ m) j) (s ∙ Traces.sums_same o e _ _ frobenius_block))
       ∙ Traces.trace_transitive F.field (p ^ m) (powers_keep F m) d e a
 
+  -- the norm of the norm
   pub norm_of_norm : h b ≡ Traces.norm_of o (p ^ (m * d)) e a
       → h (Traces.norm_of k (p ^ m) d b) ≡ Traces.norm_of o (p ^ m) (d * e) a
   norm_of_norm s =

@@ -57,13 +57,16 @@ module _ {X : Type 0} {c : Carrier X} (P : IsPropositional c) (Fc : IsField c) w
       → leading (element_ops Fc.ring) (fixing (element_ops Fc.ring) n) ≢ (element_ops Fc.ring).zero
   leading_fixing_not_zero n l z = Fc.one_not_zero (ap (value c) (sym (leading_fixing k n l) ∙ z))
 
+  -- x^n - x over c
   abbrev pub fixing_polynomial : (n : ℕ) → 1 < n → Polynomial c
   fixing_polynomial n l = polynomial_of P Fc.ring (fixing (element_ops Fc.ring) n)
       (leading_fixing_not_zero n l)
 
+  -- of degree n
   pub length_fixing_polynomial : (n : ℕ) (l : 1 < n) → length (fixing_polynomial n l).0 ≡ suc n
   length_fixing_polynomial n l = length-map (fixing k n) (value c) ∙ length_fixing k n l
 
+  -- monic
   pub fixing_monic : (n : ℕ) (l : 1 < n) → IsMonic c (fixing_polynomial n l).0
   fixing_monic n l =
       sym (leading_coefficients P Fc.ring (fixing_polynomial n l))

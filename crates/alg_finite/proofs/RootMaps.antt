@@ -37,6 +37,7 @@ module _ {X : Type 0} {c : Carrier X} (P : IsPropositional c) (Fc : IsField c) (
   abbrev class : (x : List X) → (values c f.0).Valid x → Polynomial c
   class x v = polynomial_of P Fc f not_constant monic x v
 
+  -- the value of v's coefficients at a
   abbrev pub root_map : Element (values c f.0) → A
   root_map v = value_at o (map h (elements c v.0 v.1.0)) a
 

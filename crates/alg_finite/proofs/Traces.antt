@@ -26,12 +26,14 @@ abbrev pub product_over : {A : Type 0} → Ops A → ℕ → (ℕ → A) → A
 product_over o zero f = o.one
 product_over o (suc n) f = o.mul (f 0) (product_over o n (λ k. f (suc k)))
 
+-- products of equal members are equal
 pub product_same : {A : Type 0} (o : Ops A) (n : ℕ) (f g : ℕ → A) → ((k : ℕ) → f k ≡ g k)
     → product_over o n f ≡ product_over o n g
 product_same o zero f g h = refl
 product_same o (suc n) f g h =
     ap₂ o.mul (h 0) (product_same o n (λ k. f (suc k)) (λ k. g (suc k)) (λ k. h (suc k)))
 
+-- sums of equal members are equal
 pub sums_same : {A : Type 0} (o : Ops A) (n : ℕ) (f g : ℕ → A) → ((k : ℕ) → f k ≡ g k)
     → total o n f ≡ total o n g
 sums_same o n f g h = total_same o n f g (λ k _. h k)
@@ -41,11 +43,13 @@ module _ {A : Type 0} {o : Ops A} (R : RingLaws o) where
 
   infixl 60 ◌⊕◌
   infixl 70 ◌⊗◌
+  -- the last factor may stand alone
   pub product_last : (n : ℕ) (f : ℕ → A) → product_over o (suc n) f ≡ product_over o n f ⊗ f n
   product_last zero f = R.mul_comm (f 0) I
   product_last (suc n) f = ap (λ w. f 0 ⊗ w) (product_last n (λ k. f (suc k)))
       ∙ sym (R.mul_assoc (f 0) (product_over o n (λ k. f (suc k))) (f (suc n)))
 
+  -- the product of products, member by member
   pub product_mul : (n : ℕ) (f g : ℕ → A)
       → product_over o n (λ k. f k ⊗ g k) ≡ product_over o n f ⊗ product_over o n g
   product_mul zero f g = sym (R.one_mul I)
@@ -65,6 +69,7 @@ module _ {A : Type 0} {o : Ops A} (R : RingLaws o) where
       (sums_same o m (λ k. f (suc (n + k))) (λ k. f (suc n + k)) (λ k. ap f (omega arith))))
       ∙ sym (R.add_assoc (f 0) (total o n (λ k. f (suc k))) (total o m (λ k. f (suc n + k))))
 
+  -- d * e members are e blocks of d
   pub total_blocks : (d e : ℕ) (f : ℕ → A)
       → total o (d * e) f ≡ total o e (λ i. total o d (λ j. f (d * i + j)))
   total_blocks d zero f = ap (λ n. total o n f) (mul-zero d)
@@ -75,6 +80,7 @@ module _ {A : Type 0} {o : Ops A} (R : RingLaws o) where
       (total_blocks d e (λ k. f (d + k))
       ∙ sums_same o e _ _ (λ i. sums_same o d _ _ (λ j. ap f (omega (arith, mul-suc d i)))))
 
+  -- a product of products may be taken in either order
   pub product_swap : (n m : ℕ) (f : ℕ → ℕ → A)
       → product_over o n (λ i. product_over o m (f i))
       ≡ product_over o m (λ j. product_over o n (λ i. f i j))
@@ -87,6 +93,7 @@ module _ {A : Type 0} {o : Ops A} (R : RingLaws o) where
       ap (λ w. product_over o m (f 0) ⊗ w) (product_swap n m (λ i. f (suc i)))
       ∙ sym (product_mul m (f 0) (λ j. product_over o n (λ i. f (suc i) j)))
 
+  -- n + m factors are n and then m
   pub product_append : (n m : ℕ) (f : ℕ → A)
       → product_over o (n + m) f ≡ product_over o n f ⊗ product_over o m (λ k. f (n + k))
   product_append zero m f =
@@ -100,6 +107,7 @@ module _ {A : Type 0} {o : Ops A} (R : RingLaws o) where
       ∙ sym (R.mul_assoc (f 0) (product_over o n (λ k. f (suc k)))
       (product_over o m (λ k. f (suc n + k))))
 
+  -- d * e factors are e blocks of d
   pub product_blocks : (d e : ℕ) (f : ℕ → A)
       → product_over o (d * e) f ≡ product_over o e (λ i. product_over o d (λ j. f (d * i + j)))
   product_blocks d zero f = ap (λ n. product_over o n f) (mul-zero d)
@@ -119,6 +127,7 @@ sum_all_is o f a (suc n) =
     (sum_all_is o f (a + 1) n
     ∙ sums_same o n (λ i. f (a + 1 + i)) (λ i. f (a + suc i)) (λ i. ap f (omega arith)))
 
+-- the product of a list of the values of f
 pub product_all_is : {A : Type 0} (o : Ops A) (f : ℕ → A) (a n : ℕ)
     → product_all o (map f (range_with_len a n)) ≡ product_over o n (λ i. f (a + i))
 product_all_is o f a zero = refl
@@ -127,18 +136,22 @@ product_all_is o f a (suc n) =
     (product_all_is o f (a + 1) n
     ∙ product_same o n (λ i. f (a + 1 + i)) (λ i. f (a + suc i)) (λ i. ap f (omega arith)))
 
+-- a + a^q + .., e members
 abbrev pub trace_of : {A : Type 0} → Ops A → ℕ → ℕ → A → A
 trace_of o q e a = total o e (λ i. frobenius o q i a)
 
+-- a * a^q * .., e factors
 abbrev pub norm_of : {A : Type 0} → Ops A → ℕ → ℕ → A → A
 norm_of o q e a = product_over o e (λ i. frobenius o q i a)
 
+-- a map that keeps the operations keeps sums
 pub total-map : {A B : Type 0} {o : Ops A} {k : Ops B} {h : A → B} → Homomorphism o k h
     → (n : ℕ) (f : ℕ → A) → h (total o n f) ≡ total k n (λ i. h (f i))
 total-map H zero f = H.zero
 total-map {A} {B} {o} {k} {h} H (suc n) f = H.add (f 0) (total o n (λ i. f (suc i)))
     ∙ ap (k.add (h (f 0))) (total-map H n (λ i. f (suc i)))
 
+-- and products
 pub product-map : {A B : Type 0} {o : Ops A} {k : Ops B} {h : A → B} → Homomorphism o k h
     → (n : ℕ) (f : ℕ → A)
     → h (product_over o n f) ≡ product_over k n (λ i. h (f i))
@@ -162,12 +175,14 @@ module _ {A : Type 0} {o : Ops A} (L : FieldLaws o) (q : ℕ)
   trace_of_sum e a b = sums_same o e _ _ (λ i. (T i).add a b)
       ∙ total_add L.ring e (λ i. frobenius o q i a) (λ i. frobenius o q i b)
 
+  -- what each power of a -> a^q fixes comes out of a trace
   pub trace_of_multiple : (e : ℕ) (c a : A) → ((i : ℕ) → frobenius o q i c ≡ c)
       → trace_of o q e (c ⊗ a) ≡ c ⊗ trace_of o q e a
   trace_of_multiple e c a fixed =
       sums_same o e _ _ (λ i. (T i).mul c a ∙ ap (λ t. t ⊗ frobenius o q i a) (fixed i))
       ∙ total_scale L.ring e c (λ i. frobenius o q i a)
 
+  -- the norm of a product
   pub norm_of_product : (e : ℕ) (a b : A)
       → norm_of o q e (a ⊗ b) ≡ norm_of o q e a ⊗ norm_of o q e b
   norm_of_product e a b = product_same o e _ _ (λ i. (T i).mul a b)
@@ -195,11 +210,13 @@ module _ {A : Type 0} {o : Ops A} (L : FieldLaws o) (q : ℕ)
         ∙ ap (λ t. t ⊗ product_over o n (λ i. frobenius o q (suc i) a))
         (r ∙ sym (frobenius_none L.ring q a))
 
+    -- the trace is fixed
     pub trace_fixed : Homomorphism o o (λ b. power o b q)
         → power o (trace_of o q e a) q ≡ trace_of o q e a
     trace_fixed S = total-map S e (λ i. frobenius o q i a)
         ∙ sums_same o e _ _ (λ i. sym (frobenius_last L.ring q i a)) ∙ sum_turned e back
 
+    -- the norm is fixed
     pub norm_fixed : Homomorphism o o (λ b. power o b q)
         → power o (norm_of o q e a) q ≡ norm_of o q e a
     norm_fixed S = product-map S e (λ i. frobenius o q i a)
@@ -209,6 +226,7 @@ module _ {A : Type 0} {o : Ops A} (L : FieldLaws o) (q : ℕ)
     pub trace_of_power : trace_of o q e (power o a q) ≡ trace_of o q e a
     trace_of_power = sums_same o e _ _ (λ i. sym (frobenius_next L.ring q i a)) ∙ sum_turned e back
 
+    -- the norm of a^q is that of a
     pub norm_of_power : norm_of o q e (power o a q) ≡ norm_of o q e a
     norm_of_power = product_same o e _ _ (λ i. sym (frobenius_next L.ring q i a))
         ∙ product_turned e back
@@ -224,6 +242,7 @@ module _ {A : Type 0} {o : Ops A} (L : FieldLaws o) (q : ℕ)
       (λ j. sym (frobenius_add L.ring q j (d * i) a) ∙ ap (λ k. frobenius o q k a) (omega arith)))
       ∙ sym (total_blocks L.ring d e (λ k. frobenius o q k a))
 
+  -- and so for norms
   pub norm_transitive : (d e : ℕ) (a : A)
       → product_over o d (λ j. frobenius o q j (product_over o e (λ i. frobenius o q (d * i) a)))
       ≡ norm_of o q (d * e) a
@@ -330,6 +349,7 @@ module _ {A : Type 0} {o : Ops A} (L : FieldLaws o) (q : ℕ)
             (Rings.zero_mul L.ring (frobenius o q i a)) ∙ Rings.mul_zero L.ring _))
             ∙ all_zero z g 0 (omega (arith, long))
 
+    -- a member that isn't zero has some trace of x^k a that isn't
     pub trace_parts_zero : Distinct (λ i. frobenius o q i x) e → 0 < e → a ≢ O
         → (k : ℕ) × (k < e) × (trace_of o q e (power o x k ⊗ a) ≢ O)
     trace_parts_zero d l n = ⊎_elim

@@ -34,6 +34,7 @@ kept_value o o' h z add mul (x ∷ f) a =
     ∙ ap (o'.add (h x)) (mul a (value_at o f a)
     ∙ ap (o'.mul (h a)) (kept_value o o' h z add mul f a))
 
+-- one map after another, member by member
 pub map_twice : {A B C : Type 0} (g : B → C) (h : A → B) (k : A → C) → ((a : A) → g (h a) ≡ k a)
     → (f : List A) → map g (map h f) ≡ map k f
 map_twice g h k e [] = refl
@@ -44,9 +45,11 @@ module _ {A : Type 0} {c : Carrier A} (P : IsPropositional c) (F : IsField c) (f
   abbrev Q : Ops (Polynomial c)
   Q = polynomial_ops P F.ring
 
+  -- the operations of the values
   abbrev pub value_element_ops : Ops (Element (values c f.0))
   value_element_ops = element_ops (values_ring P F f not_constant monic)
 
+  -- the values modulo an irreducible f as a field, with the ring of the values
   abbrev pub values_field_over : IsIrreducible c f.0 → IsField (values c f.0)
   values_field_over i = record {
     ring = values_ring P F f not_constant monic;
@@ -54,9 +57,11 @@ module _ {A : Type 0} {c : Carrier A} (P : IsPropositional c) (F : IsField c) (f
     inverse = (values_field P F f not_constant monic i).inverse;
   }
 
+  -- the laws of a field on them
   abbrev pub value_laws : IsIrreducible c f.0 → FieldLaws value_element_ops
   value_laws i = element_field (values_propositional P f.0) (values_field_over i)
 
+  -- values with one list are equal
   pub same_value : (x y : Element (values c f.0)) → x.0 ≡ y.0 → x ≡ y
   same_value x y e = value_injective (values_propositional P f.0) x y e
 
@@ -64,14 +69,17 @@ module _ {A : Type 0} {c : Carrier A} (P : IsPropositional c) (F : IsField c) (f
   abbrev pub remainder : Polynomial c → Element (values c f.0)
   remainder a = (reduced c.ops f.0 a.0, Remainders.reduced_value P F f not_constant monic a)
 
+  -- the remainder of a sum
   pub remainder_add : (a b : Polynomial c)
       → remainder (Q.add a b) ≡ value_element_ops.add (remainder a) (remainder b)
   remainder_add a b = same_value _ _ (Remainders.reduced_sum P F f not_constant monic a b)
 
+  -- the remainder of a product
   pub remainder_mul : (a b : Polynomial c)
       → remainder (Q.mul a b) ≡ value_element_ops.mul (remainder a) (remainder b)
   remainder_mul a b = same_value _ _ (Remainders.reduced_product P F f not_constant monic a b)
 
+  -- the remainder of zero
   pub remainder_zero : remainder Q.zero ≡ value_element_ops.zero
   remainder_zero = same_value _ _ refl
 
@@ -83,9 +91,11 @@ module _ {A : Type 0} {c : Carrier A} (P : IsPropositional c) (F : IsField c) (f
     omega (arith, length-replicate (degree f.0 - 1) c.ops.zero),
   )
 
+  -- an element of c as a value
   abbrev pub constant_element : Element c → Element (values c f.0)
   constant_element a = (padded c.ops (degree f.0) (a.0 ∷ []), constant_valid a)
 
+  -- a constant is its own remainder
   pub remainder_constant : (a : Element c) → remainder (constant P F.ring a) ≡ constant_element a
   remainder_constant a = same_value _ _
       (ap (reduced c.ops f.0) (sym
@@ -127,6 +137,7 @@ module _ {A : Type 0} {c : Carrier A} (P : IsPropositional c) (F : IsField c) (f
       (map (constant P F.ring) (coefficients g)) (Generator.generator P F.ring))
       ∙ ap remainder (Generator.polynomial_is_value P F.ring g)
 
+  -- **the generator is a root of f**
   pub generator_is_root : value_at value_element_ops
       (map constant_element (coefficients f)) generator_element ≡ value_element_ops.zero
   generator_is_root = value_at_generator_element f

@@ -87,6 +87,7 @@ module _ (E F : Field) (V : IsFiniteField E) (W : IsFiniteField F) where
       (mod-eq-zero_of_dvd (degree_of (field_of p f)) d) in
       (v.0.0, root_to p h f M g N v.0 v.1)) E F V W e d
 
+  -- and a least one
   pub least_root_where_divides : E.characteristic ≡ F.characteristic → degree_of E ∣ degree_of F
       → (v : List ℕ) × IsLeastRoot F (constants F E.polynomial) v
   least_root_where_divides e d = let v : (v : List ℕ) × IsRoot F (constants F E.polynomial) v =
@@ -186,6 +187,7 @@ module _ (E F : Field) (V : IsFiniteField E) (W : IsFiniteField F) where
         ∙ evaluate_constants p h g N (q, k) (function_of p h f M g N m D (a, va)))
         E F V W D.same_characteristic D k va
 
+    -- an embedding keeps zero
     pub zero_kept : apply F m (field_values E).ops.zero ≡ (field_values F).ops.zero
     zero_kept = of_two_fields
         (λ E F. IsEmbedding E F m → apply F m (field_values E).ops.zero ≡ (field_values F).ops.zero)
@@ -255,6 +257,7 @@ module _ (E F : Field) (V : IsFiniteField E) (W : IsFiniteField F) where
     after_frobenius_embedding t =
         comp_embedding E F F V W W m (frobenius_map F t) D (frobenius_embedding F W t)
 
+    -- which sends a to the power p^t of its image
     pub apply_after_frobenius : (t : ℕ) (a : List ℕ) → (field_values E).Valid a
         → apply F (comp F m (frobenius_map F t)) a
         ≡ power (field_values F).ops (apply F m a) (F.characteristic ^ t)

@@ -24,6 +24,7 @@ of_two_fields T t E F WE WF e =
     (λ W. t F.characteristic WF.characteristic E.polynomial
     (modulus_of (field_of F.characteristic E.polynomial) W) F.polynomial (modulus_of F WF)) WE
 
+-- the same for three fields
 pub of_three_fields : (T : Field → Field → Field → Type 0)
     → ((p : ℕ) → IsCharacteristic p → (f : List ℕ) → IsModulus p f → (g : List ℕ) → IsModulus p g
     → (k : List ℕ) → IsModulus p k
@@ -62,6 +63,7 @@ module _ (F : Field) (W : IsFiniteField F) where
       (embedding_of F.characteristic W.characteristic F.polynomial N F.polynomial N
       (identity_homomorphism FO))
 
+  -- the identity gives each value back
   pub apply_identity : (a : List ℕ) → (field_values F).Valid a → apply F (identity_map F) a ≡ a
   apply_identity a va = ap (λ m. apply F m a) identity_is
       ∙ apply_map_of F.characteristic W.characteristic F.polynomial N F.polynomial N
@@ -80,6 +82,7 @@ module _ (F : Field) (W : IsFiniteField F) where
       (embedding_of F.characteristic W.characteristic F.polynomial N F.polynomial N
       (frobenius_keeps F.characteristic W.characteristic F.polynomial N t))
 
+  -- the power t of Frobenius sends a to a^(p^t)
   pub apply_frobenius : (t : ℕ) (a : List ℕ) → (field_values F).Valid a
       → apply F (frobenius_map F t) a ≡ power (field_values F).ops a (F.characteristic ^ t)
   apply_frobenius t a va =
@@ -118,6 +121,7 @@ module _ (E F : Field) (V : IsFiniteField E) (W : IsFiniteField F) where
       → m ≡ powers F (apply F m (generator E)) (degree_of E))
       (λ p h f M g N D. embedding_is_powers p h f M g N m D) E F V W D.same_characteristic D
 
+  -- the generator is a value
   pub generator_is_value : (field_values E).Valid (generator E)
   generator_is_value = (generator_element E.characteristic V.characteristic E.polynomial
       (modulus_of E V)).1
@@ -164,6 +168,7 @@ module _ (E F G : Field) (U : IsFiniteField E) (V : IsFiniteField F) (W : IsFini
       (λ p h f M g N k O D C. comp_is_embedding p h f M g N k O m n D C) E F G U V W
       D.same_characteristic C.same_characteristic D C
 
+  -- the composition is one map after the other
   pub apply_comp : (a : List ℕ) → (field_values E).Valid a
       → apply G (comp G m n) a ≡ apply G n (apply F m a)
   apply_comp = of_three_fields
@@ -175,12 +180,14 @@ module _ (E F G : Field) (U : IsFiniteField E) (V : IsFiniteField F) (W : IsFini
 -- ---- laws of composition
 module _ (E F : Field) (V : IsFiniteField E) (W : IsFiniteField F) (m : List (List ℕ))
     (D : IsEmbedding E F m) where
+  -- the identity before an embedding changes nothing
   pub identity_comp : comp F (identity_map E) m ≡ m
   identity_comp = embeddings_equal E F V W (comp F (identity_map E) m) m
       (comp_embedding E E F V V W (identity_map E) m (identity_embedding E V) D) D
       (λ a va. apply_comp E E F V V W (identity_map E) m (identity_embedding E V) D a va
       ∙ ap (apply F m) (apply_identity E V a va))
 
+  -- nor does the identity after it
   pub comp_identity : comp F m (identity_map F) ≡ m
   comp_identity = embeddings_equal E F V W (comp F m (identity_map F)) m
       (comp_embedding E F F V W W m (identity_map F) D (identity_embedding F W)) D
@@ -199,6 +206,7 @@ module _ (E F G : Field) (U : IsFiniteField E) (V : IsFiniteField F) (W : IsFini
 
 module _ (A E F G : Field) (T : IsFiniteField A) (U : IsFiniteField E) (V : IsFiniteField F)
     (W : IsFiniteField G) where
+  -- composition is associative
   pub comp_assoc : (l m n : List (List ℕ)) → IsEmbedding A E l → IsEmbedding E F m
       → IsEmbedding F G n → comp G (comp F l m) n ≡ comp G l (comp G m n)
   comp_assoc l m n B C D =

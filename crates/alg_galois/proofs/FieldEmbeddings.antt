@@ -22,6 +22,7 @@ use Rattle.alg_finite.proofs.Values
 use Rattle.alg_finite.proofs.Values.{map_twice}
 use Rattle.alg_galois.proofs.Fields.{IsModulus, field_of, modulus, propositional, ops, laws, of_residue, of_residue_homomorphism, generator_valid, power_value, residue_induction}
 
+-- one map that keeps the operations after another
 pub composed : {A B C : Type 0} {o : Ops A} {k : Ops B} {l : Ops C} {e : A → B} {d : B → C}
     → Homomorphism o k e → Homomorphism k l d
     → Homomorphism o l (λ a. d (e a))
@@ -34,6 +35,7 @@ composed {A} {B} {C} {o} {k} {l} {e} {d} H G = record {
   is_zero = λ x. H.is_zero x ∙ G.is_zero (e x);
 }
 
+-- the identity keeps the operations
 pub identity_homomorphism : {A : Type 0} (o : Ops A) → Homomorphism o o (λ a. a)
 identity_homomorphism o =
     record {
@@ -52,9 +54,11 @@ map_replicate e (suc n) a = ap (λ w. e a ∷ w) (map_replicate e n a)
 
 -- ---- a field and its elements
 module _ (p : ℕ) (h : IsCharacteristic p) (f : List ℕ) (M : IsModulus p f) where
+  -- the class of x
   abbrev pub generator_element : Element (field_values (field_of p f))
   generator_element = (generator (field_of p f), generator_valid p h f M)
 
+  -- which is the remainder of x
   pub generator_is : Values.generator_element (residues_propositional p) (residues_field p h)
       (modulus p h f M) M.irreducible.not_constant M.monic ≡ generator_element
   generator_is = value_injective (propositional p h f M) _ _ refl
@@ -71,6 +75,7 @@ module _ (p : ℕ) (h : IsCharacteristic p) (f : List ℕ) (M : IsModulus p f) w
       ∙ Values.value_is_own_coefficients (residues_propositional p) (residues_field p h)
       (modulus p h f M) M.irreducible.not_constant M.monic a
 
+  -- as many as the degree
   pub length_digits_of : (a : Element (field_values (field_of p f)))
       → length (digits_of a) ≡ degree_of (field_of p f)
   length_digits_of a = sym (length-map (digits_of a) (value (residues p)))
@@ -81,6 +86,7 @@ module _ (p : ℕ) (h : IsCharacteristic p) (f : List ℕ) (M : IsModulus p f) w
   unit k = slice_set (replicate (degree_of (field_of p f))
       (element_ops (residues_field p h).ring).zero) k (element_ops (residues_field p h).ring).one
 
+  -- the value with one at place k
   abbrev pub unit_element : ℕ → Element (field_values (field_of p f))
   unit_element k = (
     map (value (residues p)) (unit k),
@@ -95,6 +101,7 @@ module _ (p : ℕ) (h : IsCharacteristic p) (f : List ℕ) (M : IsModulus p f) w
     ),
   )
 
+  -- as a list it is the k-th unit column
   pub unit_is_column : (k : ℕ)
       → (unit_element k).0 ≡ unit_column (mod_ops p) (degree_of (field_of p f)) k
   unit_is_column k =
@@ -105,10 +112,12 @@ module _ (p : ℕ) (h : IsCharacteristic p) (f : List ℕ) (M : IsModulus p f) w
       (map_replicate (value (residues p)) (degree_of (field_of p f))
       (element_ops (residues_field p h).ring).zero)
 
+  -- its coefficients
   pub digits_of_unit : (k : ℕ) → digits_of (unit_element k) ≡ unit k
   digits_of_unit k = values_injective (residues_propositional p) _ _
       (elements_are (residues p) (unit_element k).0 (unit_element k).1.0)
 
+  -- it is the power k of the generator
   pub unit_is_power : (k : ℕ) → k < degree_of (field_of p f)
       → unit_element k ≡ power (ops p h f M) generator_element k
   unit_is_power k l =
@@ -178,6 +187,7 @@ module _ (p : ℕ) (h : IsCharacteristic p) (f : List ℕ) (M : IsModulus p f) (
         (e (generator_element p h f M))
     determined a = ap e (sym (own_value p h f M a)) ∙ keeps_values (digits_of p h f M a) x
 
+    -- such a map is injective
     pub image_injective : (a b : Element (field_values (field_of p f))) → e a ≡ e b → a ≡ b
     image_injective = injective (laws p h f M).ring (laws p h g N).ring H
 
@@ -211,6 +221,7 @@ module _ (p : ℕ) (h : IsCharacteristic p) (f : List ℕ) (M : IsModulus p f) (
   powers_are v n = map_twice (value (field_values F)) (power FO v) (power (field_values F).ops v.0)
       (power_value p h g N v) (range_with_len 0 n)
 
+  -- the map 1, v, v^2, .. gives the value of the coefficients at v
   pub apply_powers : (v : Element (field_values (field_of p g)))
       (a : Element (field_values (field_of p f)))
       → apply (field_of p g) (powers (field_of p g) v.0 (degree_of (field_of p f))) a.0
@@ -222,24 +233,29 @@ module _ (p : ℕ) (h : IsCharacteristic p) (f : List ℕ) (M : IsModulus p f) (
       (degree_of E) (digits_of p h f M a)
       (omega (arith, length_digits_of p h f M a)))
 
+  -- its members are values
   pub powers_valid : (v : Element (field_values (field_of p g))) (n : ℕ)
       → All (field_values (field_of p g)).Valid (powers (field_of p g) v.0 n)
   powers_valid v n = subst (All (field_values F).Valid) (powers_are v n)
       (values_valid (field_values F) (map (power FO v) (range_with_len 0 n)))
 
+  -- there are n of them
   pub length_powers : (v : List ℕ) (n : ℕ) → length (powers (field_of p g) v n) ≡ n
   length_powers v n = length-map-range_with_len (power (field_values F).ops v) 0 n
 
   -- **a map that keeps the operations is an embedding: the powers of the generator's image**
   module _ {e : Element (field_values (field_of p f)) → Element (field_values (field_of p g))}
       (H : Homomorphism (ops p h f M) (ops p h g N) e) where
+    -- the list of the powers of the generator's image
     abbrev pub map_of : List (List ℕ)
     map_of = powers (field_of p g) (e (generator_element p h f M)).0 (degree_of (field_of p f))
 
+    -- which gives what the map gives
     pub apply_map_of : (a : Element (field_values (field_of p f)))
         → apply (field_of p g) map_of a.0 ≡ (e a).0
     apply_map_of a = apply_powers (e x) a ∙ ap (λ y. y.0) (sym (determined H a))
 
+    -- and is an embedding
     pub embedding_of : IsEmbedding (field_of p f) (field_of p g) map_of
     embedding_of = record {
       same_characteristic = refl;
@@ -275,21 +291,25 @@ module _ (p : ℕ) (h : IsCharacteristic p) (f : List ℕ) (M : IsModulus p f) (
     apply_is a = apply_elements cs a
         ∙ ap (λ w. apply F w a.0) (elements_are (field_values F) m D.images)
 
+    -- the image of a value is a value
     pub apply_valid : (a : Element (field_values (field_of p f)))
         → (field_values (field_of p g)).Valid (apply (field_of p g) m a.0)
     apply_valid a = subst (field_values F).Valid (apply_is a)
         (combine (of_residue p h g N) FO cs (digits_of p h f M a)).1
 
+    -- an embedding on elements
     abbrev pub function_of : Element (field_values (field_of p f))
         → Element (field_values (field_of p g))
     function_of a = (apply (field_of p g) m a.0, apply_valid a)
 
+    -- it keeps the operations
     pub function_homomorphism : Homomorphism (ops p h f M) (ops p h g N) function_of
     function_homomorphism = field_homomorphism (laws p h f M) (laws p h g N)
         (value_injective (propositional p h g N) _ _ D.one)
         (λ a b. value_injective (propositional p h g N) _ _ (D.sums a.0 b.0 a.1 b.1))
         (λ a b. value_injective (propositional p h g N) _ _ (D.products a.0 b.0 a.1 b.1))
 
+    -- its k-th member is the image of the power k of the generator
     pub unit_image : (k : ℕ) → k < degree_of (field_of p f)
         → slice_index_or m k [] ≡ (function_of (unit_element p h f M k)).0
     unit_image k l =
@@ -312,6 +332,7 @@ module _ (p : ℕ) (h : IsCharacteristic p) (f : List ℕ) (M : IsModulus p f) (
   module _ (v : Element (field_values (field_of p g)))
       (root : evaluate (residues p) (of_residue p h g N) (ops p h g N) (modulus p h f M) v
       ≡ (ops p h g N).zero) where
+    -- the map of a root keeps the operations
     pub root_function : Homomorphism (ops p h f M) (ops p h g N)
         (RootMaps.root_map (residues_propositional p) (residues_field p h)
         (modulus p h f M) M.irreducible.not_constant M.monic (laws p h g N)
@@ -320,6 +341,7 @@ module _ (p : ℕ) (h : IsCharacteristic p) (f : List ℕ) (M : IsModulus p f) (
         (modulus p h f M) M.irreducible.not_constant M.monic
         (laws p h g N) (of_residue_homomorphism p h g N) v root M.irreducible
 
+    -- its list is an embedding
     pub root_embedding : IsEmbedding (field_of p f) (field_of p g)
         (powers (field_of p g) v.0 (degree_of (field_of p f)))
     root_embedding = record {

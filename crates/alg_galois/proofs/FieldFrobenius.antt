@@ -46,6 +46,7 @@ module _ (p : ℕ) (h : IsCharacteristic p) (g : List ℕ) (N : IsModulus p g) w
       (sym (div-add-mod k d.0) ∙ omega (arith, common d.0 (divides i ei) (divides j ej)))
       ∙ frobenius_multiple (laws p h g N).ring p d.0 a back (k / d.0)
 
+  -- a value that comes back after i powers comes back after each multiple of i
   pub frobenius_returns_multiple : (i n : ℕ) → n % i ≡ 0
       → (a : Element (field_values (field_of p g)))
       → frobenius (ops p h g N) p i a ≡ a → frobenius (ops p h g N) p n a ≡ a
@@ -154,6 +155,7 @@ module _ (p : ℕ) (h : IsCharacteristic p) (f : List ℕ) (M : IsModulus p f) (
     image_returns a = sym (power-map H a (p ^ degree_of (field_of p f)))
         ∙ ap e ((finite p h f M).fixed a)
 
+    -- what it fixes is an image
     pub returning_is_image : (b : Element (field_values (field_of p g)))
         → frobenius (ops p h g N) p (degree_of (field_of p f)) b ≡ b
         → (a : Element (field_values (field_of p f))) × (e a ≡ b)
@@ -189,6 +191,7 @@ module _ (p : ℕ) (h : IsCharacteristic p) (f : List ℕ) (M : IsModulus p f) (
         ∙ sym (frobenius_remainder (laws p h g N).ring p (degree_of (field_of p f)) (e a)
         (image_returns a) t)
 
+    -- and only then
     pub remainders_agree : (s t : ℕ)
         → ((a : Element (field_values (field_of p f)))
         → frobenius (ops p h g N) p s (e a) ≡ frobenius (ops p h g N) p t (e a))
@@ -197,6 +200,7 @@ module _ (p : ℕ) (h : IsCharacteristic p) (f : List ℕ) (M : IsModulus p f) (
 
 -- **no fewer powers of Frobenius than the degree bring the generator back**
 module _ (p : ℕ) (h : IsCharacteristic p) (g : List ℕ) (N : IsModulus p g) where
+  -- the period of the generator is the degree
   pub generator_period : Period (ops p h g N) p (generator_element p h g N)
       (degree_of (field_of p g))
   generator_period = field_root_period p h g N g N (generator_element p h g N)

@@ -111,6 +111,7 @@ module _ (F : Field) (W : IsFiniteField F) (a : List ℕ) (va : (field_values F)
   abbrev N : IsModulus F.characteristic F.polynomial
   N = modulus_of F W
 
+  -- a value has a minimal polynomial over the prime field
   pub minimal_over_prime_exists : (g : List ℕ) × IsMinimal F a g
   minimal_over_prime_exists =
       minimal_exists (residues_propositional p) (residues_field p W.characteristic)
@@ -119,6 +120,7 @@ module _ (F : Field) (W : IsFiniteField F) (a : List ℕ) (va : (field_values F)
       (finite p W.characteristic F.polynomial N)
       (of_residue_homomorphism p W.characteristic F.polynomial N) (constant F) (λ b. refl) (a, va)
 
+  -- one alone
   pub minimal_over_prime_unique : (g f : List ℕ) → IsMinimal F a g → IsMinimal F a f → g ≡ f
   minimal_over_prime_unique g f M =
       minimal_unique (residues_propositional p) (residues_field p W.characteristic)
@@ -128,6 +130,7 @@ module _ (F : Field) (W : IsFiniteField F) (a : List ℕ) (va : (field_values F)
       (of_residue_homomorphism p W.characteristic F.polynomial N) (constant F) (λ b. refl)
       (a, va) g M f
 
+  -- which is irreducible
   pub minimal_over_prime_irreducible : (g : List ℕ) → IsMinimal F a g
       → IsIrreducible (residues F.characteristic) g
   minimal_over_prime_irreducible =
@@ -137,6 +140,7 @@ module _ (F : Field) (W : IsFiniteField F) (a : List ℕ) (va : (field_values F)
       (finite p W.characteristic F.polynomial N)
       (of_residue_homomorphism p W.characteristic F.polynomial N) (constant F) (λ b. refl) (a, va)
 
+  -- and divides what vanishes there
   pub minimal_over_prime_divides : (g : List ℕ) → IsMinimal F a g → (f : List ℕ)
       → IsPolynomial (residues F.characteristic) f
       → value_at (field_values F).ops (constants F f) a ≡ (field_values F).ops.zero
@@ -151,6 +155,7 @@ module _ (F : Field) (W : IsFiniteField F) (a : List ℕ) (va : (field_values F)
 -- ---- over a subfield
 module _ (E F : Field) (V : IsFiniteField E) (W : IsFiniteField F) (m : List (List ℕ))
     (D : IsEmbedding E F m) (a : List ℕ) (va : (field_values F).Valid a) where
+  -- a value has a minimal polynomial over a subfield
   pub minimal_over_exists : (g : List (List ℕ)) × IsMinimalOver E F m a g
   minimal_over_exists = of_two_fields
       (λ E F. IsEmbedding E F m → (field_values F).Valid a
@@ -160,6 +165,7 @@ module _ (E F : Field) (V : IsFiniteField E) (W : IsFiniteField F) (m : List (Li
       (function_homomorphism p h f M g N m D) (apply (field_of p g) m) (λ b. refl) (a, va)) E F V W
       D.same_characteristic D va
 
+  -- one alone
   pub minimal_over_unique : (g f : List (List ℕ)) → IsMinimalOver E F m a g
       → IsMinimalOver E F m a f → g ≡ f
   minimal_over_unique = of_two_fields
@@ -170,6 +176,7 @@ module _ (E F : Field) (V : IsFiniteField E) (W : IsFiniteField F) (m : List (Li
       (function_homomorphism p h f M g N m D) (apply (field_of p g) m) (λ b. refl) (a, va) k A l) E
       F V W D.same_characteristic D va
 
+  -- which is irreducible
   pub minimal_over_irreducible : (g : List (List ℕ)) → IsMinimalOver E F m a g
       → IsIrreducible (field_values E) g
   minimal_over_irreducible =
@@ -180,6 +187,7 @@ module _ (E F : Field) (V : IsFiniteField E) (W : IsFiniteField F) (m : List (Li
       (function_homomorphism p h f M g N m D) (apply (field_of p g) m) (λ b. refl) (a, va)) E F V W
       D.same_characteristic D va
 
+  -- and divides what vanishes there
   pub minimal_over_divides : (g : List (List ℕ)) → IsMinimalOver E F m a g → (f : List (List ℕ))
       → IsPolynomial (field_values E) f
       → value_at (field_values F).ops (map (apply F m) f) a ≡ (field_values F).ops.zero

@@ -38,6 +38,7 @@ module _ (p : ℕ) (h : IsCharacteristic p) (g : List ℕ) (N : IsModulus p g) w
       ∙ sym (sum_all_is (field_values (field_of p g)).ops
       (λ i. power (field_values (field_of p g)).ops a.0 (q ^ i)) 0 e)
 
+  -- the product of conjugates, as an element and as a list
   pub product_value : (q e : ℕ) (a : Element (field_values (field_of p g)))
       → (norm_of (ops p h g N) q e a).0
       ≡ product_all (field_values (field_of p g)).ops
@@ -60,6 +61,7 @@ module _ (p : ℕ) (h : IsCharacteristic p) (g : List ℕ) (N : IsModulus p g) w
       (ap (λ q. frobenius FO q i x) (pow_one p) ∙ r
       ∙ ap (λ q. frobenius FO q j x) (sym (pow_one p)))
 
+  -- the generator has e different conjugates over a subfield of degree n / e
   pub generator_distinct_over : (m e : ℕ) → degree_of (field_of p g) ≡ m * e
       → Distinct (λ i. frobenius (ops p h g N) (p ^ m) i (generator_element p h g N)) e
   generator_distinct_over zero e s i j l k r =
@@ -107,6 +109,7 @@ module _ (F : Field) (W : IsFiniteField F) where
       (finite p W.characteristic F.polynomial N₁) (degree_of F) size (a, va) in
       (b.0.0, b.0.1, ap (λ y. y.0) b.1 ∙ trace_is (a, va))
 
+  -- the norm is a constant
   pub norm_in_prime_field : (a : List ℕ) → (field_values F).Valid a
       → (t : ℕ) × (t < F.characteristic) × (constant F t ≡ norm F a)
   norm_in_prime_field a va =
@@ -129,6 +132,7 @@ module _ (F : Field) (W : IsFiniteField F) where
       (finite p W.characteristic F.polynomial N₁) (degree_of F) size (a, va) (b, vb))
       ∙ ap₂ (field_values F).ops.add (trace_is (a, va)) (trace_is (b, vb))
 
+  -- a constant comes out of the trace
   pub trace_multiple : (t : ℕ) (a : List ℕ) → t < F.characteristic → (field_values F).Valid a
       → trace F ((field_values F).ops.mul (constant F t) a)
       ≡ (field_values F).ops.mul (constant F t) (trace F a)
@@ -140,6 +144,7 @@ module _ (F : Field) (W : IsFiniteField F) where
       (finite p W.characteristic F.polynomial N₁) (degree_of F) size (t, l) (a, va))
       ∙ ap ((field_values F).ops.mul (constant F t)) (trace_is (a, va))
 
+  -- the norm of a product
   pub norm_product : (a b : List ℕ) → (field_values F).Valid a → (field_values F).Valid b
       → norm F ((field_values F).ops.mul a b) ≡ (field_values F).ops.mul (norm F a) (norm F b)
   norm_product a b va vb =

@@ -25,9 +25,11 @@ pub record IsModulus (p : ℕ) (f : List ℕ) : Type 0 where
   pub monic : IsMonic (residues p) f
   pub irreducible : IsIrreducible (residues p) f
 
+-- the polynomial of a finite field
 pub modulus_of : (K : Field) → IsFiniteField K → IsModulus K.characteristic K.polynomial
 modulus_of K W = record { monic = W.monic; irreducible = W.irreducible }
 
+-- the field with characteristic p and polynomial f
 abbrev pub field_of : ℕ → List ℕ → Field
 field_of p f = record { characteristic = p; polynomial = f }
 
@@ -74,23 +76,29 @@ residue_induction p h T z s a =
         (s (i % p, below i) (at i))
 
 module _ (p : ℕ) (h : IsCharacteristic p) (f : List ℕ) (M : IsModulus p f) where
+  -- the residues modulo p
   abbrev pub prime_field : IsField (residues p)
   prime_field = residues_field p h
 
+  -- f as a polynomial over them
   abbrev pub modulus : Polynomial (residues p)
   modulus = (f, M.irreducible.polynomial)
 
+  -- values are equal and valid in one way
   abbrev pub propositional : IsPropositional (field_values (field_of p f))
   propositional = values_propositional (residues_propositional p) f
 
+  -- the values are a field
   abbrev pub field_is : IsField (field_values (field_of p f))
   field_is = Values.values_field_over (residues_propositional p)
       (residues_field p h) modulus M.irreducible.not_constant M.monic M.irreducible
 
+  -- their operations
   abbrev pub ops : Ops (Element (field_values (field_of p f)))
   ops = Values.value_element_ops (residues_propositional p)
       (residues_field p h) modulus M.irreducible.not_constant M.monic
 
+  -- and the laws of a field on them
   abbrev pub laws : FieldLaws ops
   laws = Values.value_laws (residues_propositional p)
       (residues_field p h) modulus M.irreducible.not_constant M.monic M.irreducible
@@ -100,6 +108,7 @@ module _ (p : ℕ) (h : IsCharacteristic p) (f : List ℕ) (M : IsModulus p f) w
   finite_over_prime = values_finite (residues_propositional p) (residues_field p h)
       (residues_finite p h) modulus M.irreducible.not_constant M.monic M.irreducible
 
+  -- **with p^n members**
   pub finite : FiniteField ops p (degree_of (field_of p f))
   finite = subst (FiniteField ops p) (one-mul (degree_of (field_of p f))) finite_over_prime
 
@@ -108,12 +117,14 @@ module _ (p : ℕ) (h : IsCharacteristic p) (f : List ℕ) (M : IsModulus p f) w
   of_residue = Values.constant_element (residues_propositional p)
       (residues_field p h) modulus M.irreducible.not_constant M.monic
 
+  -- constants keep the operations
   abbrev pub of_residue_homomorphism : Homomorphism
       (element_ops (residues_field p h).ring) ops of_residue
   of_residue_homomorphism =
       Values.constant_element_homomorphism (residues_propositional p)
       (residues_field p h) modulus M.irreducible.not_constant M.monic M.irreducible
 
+  -- the value of a polynomial over the prime field, as an element and as a list
   pub evaluate_constants : (g : Polynomial (residues p)) (a : Element (field_values (field_of p f)))
       → (evaluate (residues p) of_residue ops g a).0
       ≡ value_at (field_values (field_of p f)).ops (constants (field_of p f) g.0) a.0
@@ -131,6 +142,7 @@ module _ (p : ℕ) (h : IsCharacteristic p) (f : List ℕ) (M : IsModulus p f) w
       reduced_generator : x.0 ≡ generator (field_of p f)
       reduced_generator = refl
 
+  -- powers, as elements and as lists
   abbrev pub power_value : (a : Element (field_values (field_of p f))) (n : ℕ)
       → (power ops a n).0 ≡ power (field_values (field_of p f)).ops a.0 n
   power_value a n = power-map (value_homomorphism field_is.ring) a n

@@ -51,6 +51,7 @@ module _ (K : Field) (W : IsFiniteField K) (w : List ℕ) (vw : (field_values K)
       list_fixed n (frobenius_returns_multiple K.characteristic W.characteristic K.polynomial
       (modulus_of K W) d n (mod-eq-zero_of_dvd d k) (w, vw) (element_fixed d e))
 
+-- a degree is positive
 pub degree_positive : (K : Field) → IsFiniteField K → 0 < degree_of K
 degree_positive K W = let l : 1 < length K.polynomial = W.irreducible.not_constant in omega arith
 
@@ -160,6 +161,7 @@ module _ (I J K L : Field) (RI : IsFiniteField I) (RJ : IsFiniteField J) (RK : I
           (common_divides meets D.0 D.1 D.2 (subst (λ n. n ∣ degree_of I) (sym D.3) di)
           (subst (λ n. n ∣ degree_of J) (sym D.3) dj))
 
+  -- both ways
   pub meet_is_gcd : IsMeet I J K L u v a b ↔ IsGcd (degree_of I) (degree_of J) (degree_of L)
   meet_is_gcd = (gcd_from_meet, meet_from_gcd)
 

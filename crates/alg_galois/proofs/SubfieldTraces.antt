@@ -200,6 +200,7 @@ module _ (E F : Field) (V : IsFiniteField E) (W : IsFiniteField F) (m : List (Li
       → (b : List ℕ) × (field_values E).Valid b × (apply F m b ≡ trace_over E F a))
       (λ p h f M g N D. trace_image p h f M g N m D) E F V W D.same_characteristic D
 
+  -- the norm lies in the subfield
   pub norm_over_is_image : (a : List ℕ) → (field_values F).Valid a
       → (b : List ℕ) × (field_values E).Valid b × (apply F m b ≡ norm_over E F a)
   norm_over_is_image = of_two_fields
@@ -218,6 +219,7 @@ module _ (E F : Field) (V : IsFiniteField E) (W : IsFiniteField F) (m : List (Li
       ≡ (field_values F).ops.add (trace_over E F a) (trace_over E F b))
       (λ p h f M g N D. trace_of_sum p h f M g N m D) E F V W D.same_characteristic D
 
+  -- a value of the subfield comes out of the trace
   pub trace_over_multiple : (c a : List ℕ) → (field_values E).Valid c → (field_values F).Valid a
       → trace_over E F ((field_values F).ops.mul (apply F m c) a)
       ≡ (field_values F).ops.mul (apply F m c) (trace_over E F a)
@@ -228,6 +230,7 @@ module _ (E F : Field) (V : IsFiniteField E) (W : IsFiniteField F) (m : List (Li
       ≡ (field_values F).ops.mul (apply F m c) (trace_over E F a))
       (λ p h f M g N D. trace_of_multiple p h f M g N m D) E F V W D.same_characteristic D
 
+  -- the norm of a product
   pub norm_over_product : (a b : List ℕ) → (field_values F).Valid a → (field_values F).Valid b
       → norm_over E F ((field_values F).ops.mul a b)
       ≡ (field_values F).ops.mul (norm_over E F a) (norm_over E F b)
@@ -270,6 +273,7 @@ module _ (E F : Field) (V : IsFiniteField E) (W : IsFiniteField F) (m : List (Li
       → apply F m b ≡ trace_over E F a → apply F m (trace E b) ≡ trace F a)
       (λ p h f M g N D. prime_tower p h f M g N m D) E F V W D.same_characteristic D
 
+  -- the norm of the norm over a subfield is the norm
   pub norm_of_norm_over : (a b : List ℕ) → (field_values F).Valid a → (field_values E).Valid b
       → apply F m b ≡ norm_over E F a
       → apply F m (norm E b) ≡ norm F a
@@ -282,6 +286,7 @@ module _ (E F : Field) (V : IsFiniteField E) (W : IsFiniteField F) (m : List (Li
 -- **in a tower of fields A, E, F the trace over A is that of the trace over E, and so for norms**
 module _ (A E F : Field) (U : IsFiniteField A) (V : IsFiniteField E) (W : IsFiniteField F)
     (l m : List (List ℕ)) (B : IsEmbedding A E l) (D : IsEmbedding E F m) where
+  -- the trace over A
   pub trace_over_transitive : (a b : List ℕ) → (field_values F).Valid a → (field_values E).Valid b
       → apply F m b ≡ trace_over E F a
       → apply F m (trace_over A E b) ≡ trace_over A F a
@@ -302,6 +307,7 @@ module _ (A E F : Field) (U : IsFiniteField A) (V : IsFiniteField E) (W : IsFini
       (tower_quotient p h f M g N m D (degree_of (field_of p k)) (finite p h k O).positive d))
       A E F U V W B.same_characteristic D.same_characteristic B D
 
+  -- the norm over A
   pub norm_over_transitive : (a b : List ℕ) → (field_values F).Valid a → (field_values E).Valid b
       → apply F m b ≡ norm_over E F a
       → apply F m (norm_over A E b) ≡ norm_over A F a
