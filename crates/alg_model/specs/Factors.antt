@@ -8,7 +8,7 @@
 --     IsIrreducible c f              f isn't constant and has no proper factor
 --     order_by cmp f g             the number of coefficients first, then from the highest place down
 --     IsLeastFactor c cmp f g      g is the first proper factor of f in this order
-use Rattle.std.specs.Prelude.{◌≡◌, ◌⊎◌, ℕ, ◌+◌, ◌<◌, List, [], ◌∷◌, length, All}
+use Rattle.std.specs.Prelude.{◌≡◌, ◌⊎◌, ◌<◌, List, [], ◌∷◌, length, All}
 use Rattle.std.specs.declared.cmp.Ordering.{Ordering}
 use Rattle.std.specs.declared.cmp.Ordering.TheVariants.{Less, Equal, Greater}
 use Rattle.std.specs.Ordering.{ordering_then}

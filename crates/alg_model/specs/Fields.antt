@@ -2,7 +2,7 @@
 --     IsRing c      sums and products of elements are elements, and keep the laws of a commutative ring
 --     IsField c     a ring in which one isn't zero and each element but zero has an inverse
 use Rattle.std.specs.Prelude.{◌≡◌, ◌≢◌, ◌↔◌, IsTrue}
-use Rattle.alg_model.specs.Coefficients.{Ops, Carrier}
+use Rattle.alg_model.specs.Coefficients.{Carrier}
 
 pub record IsRing {A : Type 0} (c : Carrier A) : Type 0 where
   pub zero_valid : c.Valid c.ops.zero

@@ -4,3 +4,6 @@ pub mod Factors
 pub mod Values
 pub mod Fields
 pub mod Matrices
+pub mod Maps
+pub mod Roots
+pub mod Conjugates

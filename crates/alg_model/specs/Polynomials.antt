@@ -7,7 +7,7 @@
 --     evaluate f a                   the sum of f's coefficients times the powers of a
 --     poly_power f n                 f * .. * f, n times
 --     convolution f g k              the sum of f_i * g_j over all i + j = k
-use Rattle.std.specs.Prelude.{ℕ, zero, suc, ◌-◌, Bool, cond, List, [], ◌∷◌, map, slice_index_or}
+use Rattle.std.specs.Prelude.{ℕ, zero, suc, ◌-◌, cond, List, [], ◌∷◌, map, slice_index_or}
 use Rattle.alg_model.specs.Coefficients.{Ops, times}
 
 module _ {A : Type 0} (o : Ops A) where

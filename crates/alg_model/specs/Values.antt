@@ -3,7 +3,7 @@
 --     remainder o f xs           the remainder of xs by the monic f, as a list of deg f places
 --     value_ops o f            sums placewise, products remainder
 --     values c f               the values over c modulo f
-use Rattle.std.specs.Prelude.{◌≡◌, ℕ, zero, suc, ◌+◌, ◌-◌, ◌*◌, ◌<◌, Bool, List, [], ◌∷◌, ◌++◌, length, map, replicate, take, All, slice_index_or}
+use Rattle.std.specs.Prelude.{◌≡◌, ℕ, ◌-◌, List, [], ◌∷◌, ◌++◌, length, map, replicate, take, All, slice_index_or}
 use Rattle.std.specs.List.{list_all}
 use Rattle.alg_model.specs.Coefficients.{Ops, Carrier}
 use Rattle.alg_model.specs.Polynomials.{sum, scale, product}

@@ -1,0 +1,16 @@
+pub mod Enumerations
+pub mod FieldMaps
+pub mod FiniteField
+pub mod Extensions
+pub mod Orbits
+pub mod Evaluation
+pub mod MinimalPolynomials
+pub mod Values
+pub mod FiniteValues
+pub mod RootExistence
+pub mod RootMaps
+pub mod IrreducibleExistence
+pub mod Combinations
+pub mod LeastMembers
+pub mod Traces
+pub mod RelativeTraces

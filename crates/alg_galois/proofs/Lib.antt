@@ -1,0 +1,11 @@
+pub mod Fields
+pub mod FieldEmbeddings
+pub mod FieldFrobenius
+pub mod Embeddings
+pub mod EmbeddingRoots
+pub mod LeastIrreducible
+pub mod Meets
+pub mod FieldTraces
+pub mod SubfieldTraces
+pub mod FieldMinimals
+pub mod FieldSizes
