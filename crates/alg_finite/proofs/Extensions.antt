@@ -3,9 +3,9 @@
 -- power permutes the roots of each polynomial over B.
 use Rattle.std.proofs.Common.{◌≡◌, ⊎_elim, ℕ, zero, suc, ◌^◌, ◌<◌, ◌≤◌, List, [], ◌∷◌, map, refl, ap, ap₂, sym, ◌∙◌, arith}
 use Rattle.alg_model.specs.Coefficients.{Ops, power}
-use Rattle.alg_model.specs.Polynomials.{value_at}
+use Rattle.alg_model.specs.Polynomials.{evaluate}
 use Rattle.alg_rings.specs.Laws.{FieldLaws}
-use Rattle.alg_rings.proofs.Homomorphisms.{Homomorphism, power-map, value_at-map}
+use Rattle.alg_rings.proofs.Homomorphisms.{Homomorphism, power-map, evaluate-map}
 use Rattle.alg_fields.proofs.FermatProduct.{fixing, length_fixing, leading_fixing, value_of_fixing}
 use Rattle.alg_finite.proofs.Enumerations.{Distinct, first_below, members_distinct}
 use Rattle.alg_finite.proofs.FieldMaps.{equal_or_not, injective}
@@ -69,9 +69,9 @@ module _ {A B : Type 0} {k : Ops B} {o : Ops A} {h : B → A} (H : Homomorphism 
 
   -- **the value at a^q is the value's power q**
   pub power_of_value : Homomorphism o o (λ a. power o a (p ^ m)) → (f : List B) (a : A)
-      → value_at o (map h f) (power o a (p ^ m)) ≡ power o (value_at o (map h f) a) (p ^ m)
+      → evaluate o (map h f) (power o a (p ^ m)) ≡ power o (evaluate o (map h f) a) (p ^ m)
   power_of_value T f a = sym
-      (value_at-map T (map h f) a ∙ ap (λ g. value_at o g (power o a (p ^ m))) (same f))
+      (evaluate-map T (map h f) a ∙ ap (λ g. evaluate o g (power o a (p ^ m))) (same f))
     where
       same : (f : List B) → map (λ a. power o a (p ^ m)) (map h f) ≡ map h f
       same [] = refl
@@ -79,12 +79,12 @@ module _ {A B : Type 0} {k : Ops B} {o : Ops A} {h : B → A} (H : Homomorphism 
 
   -- and so for each power of Frobenius over B
   pub frobenius_of_value : Homomorphism o o (λ a. power o a (p ^ m)) → (f : List B) (i : ℕ) (a : A)
-      → value_at o (map h f) (frobenius o (p ^ m) i a)
-      ≡ frobenius o (p ^ m) i (value_at o (map h f) a)
-  frobenius_of_value T f zero a = ap (value_at o (map h f)) (frobenius_none F.ring (p ^ m) a)
+      → evaluate o (map h f) (frobenius o (p ^ m) i a)
+      ≡ frobenius o (p ^ m) i (evaluate o (map h f) a)
+  frobenius_of_value T f zero a = ap (evaluate o (map h f)) (frobenius_none F.ring (p ^ m) a)
       ∙ sym (frobenius_none F.ring (p ^ m) _)
   frobenius_of_value T f (suc i) a =
-      ap (value_at o (map h f)) (frobenius_last F.ring (p ^ m) i a)
+      ap (evaluate o (map h f)) (frobenius_last F.ring (p ^ m) i a)
       ∙ power_of_value T f (frobenius o (p ^ m) i a)
       ∙ ap (λ t. power o t (p ^ m)) (frobenius_of_value T f i a)
-      ∙ sym (frobenius_last F.ring (p ^ m) i (value_at o (map h f) a))
+      ∙ sym (frobenius_last F.ring (p ^ m) i (evaluate o (map h f) a))

@@ -8,15 +8,15 @@ use Rattle.std.proofs.lemmas.Nat.{pow-add}
 use Rattle.std.specs.List.{range_with_len}
 use Rattle.std.proofs.lemmas.List.FromFn.{length-map-range_with_len, get_or-map-range_with_len}
 use Rattle.alg_model.specs.Coefficients.{Ops, times, power}
-use Rattle.alg_model.specs.Polynomials.{leading, value_at}
+use Rattle.alg_model.specs.Polynomials.{leading, evaluate}
 use Rattle.alg_rings.specs.Laws.{RingLaws, FieldLaws}
 use Rattle.alg_rings.proofs.Division.{zero_from_product}
 use Rattle.alg_rings.proofs.Homomorphisms.{Homomorphism}
-use Rattle.alg_fields.proofs.AtResidues.{first_power}
-use Rattle.alg_fields.proofs.Powers
+use Rattle.alg_fields.proofs.OverResidues.{first_power}
+use Rattle.alg_rings.proofs.Powers
 use Rattle.alg_fields.proofs.Roots
 use Rattle.alg_fields.proofs.Frobenius
-use Rattle.alg_fields.proofs.Frobenius.{IsPrime}
+use Rattle.alg_model.specs.Coefficients.{IsPrime}
 use Rattle.alg_finite.proofs.Enumerations.{Enumeration, Distinct}
 use Rattle.alg_finite.proofs.FieldMaps.{field_homomorphism, injective}
 
@@ -105,7 +105,7 @@ module _ {A : Type 0} {o : Ops A} (R : RingLaws o) where
 -- a polynomial has fewer roots than coefficients, for roots by number
 pub root_bound_at : {A : Type 0} {o : Ops A} → FieldLaws o → (f : List A) → leading o f ≢ o.zero
     → (at : ℕ → A) (n : ℕ) → Distinct at n
-    → ((i : ℕ) → i < n → value_at o f (at i) ≡ o.zero) → n < length f
+    → ((i : ℕ) → i < n → evaluate o f (at i) ≡ o.zero) → n < length f
 root_bound_at {A} {o} F f l at n d z =
     omega (
       arith,
@@ -124,8 +124,8 @@ root_bound_at {A} {o} F f l at n d z =
     distinct i j e h k s = d i j h (omega (arith, long))
         (sym (here i e (omega (arith, long))) ∙ s ∙ here j e (omega (arith, long)))
 
-    zeros : All (λ a. value_at o f a ≡ o.zero) (map at (range_with_len 0 n))
-    zeros i e h = ap (value_at o f) (here i e (omega (arith, long))) ∙ z i (omega (arith, long))
+    zeros : All (λ a. evaluate o f a ≡ o.zero) (map at (range_with_len 0 n))
+    zeros i e h = ap (evaluate o f) (here i e (omega (arith, long))) ∙ z i (omega (arith, long))
 
 module _ {A : Type 0} {o : Ops A} (F : FieldLaws o) {p : ℕ} (prime : IsPrime p)
     (characteristic : times o p o.one ≡ o.zero) where

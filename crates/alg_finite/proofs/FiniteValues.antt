@@ -5,19 +5,18 @@ use Rattle.std.proofs.Common.{◌≡◌, ◌≢◌, ⊎_elim, ℕ, ◌-◌, ◌*
 use Rattle.std.proofs.Math.Nat.{mod-eq_of_lt, mul-pos}
 use Rattle.std.proofs.lemmas.List.{length-map}
 use Rattle.std.proofs.lemmas.Bool.{cases_lt}
-use Rattle.alg_model.specs.Coefficients.{Ops, Carrier, IsCharacteristic, power, times}
-use Rattle.alg_model.specs.Polynomials.{value_at, leading}
+use Rattle.alg_model.specs.Coefficients.{Ops, Carrier, IsPrime, power, times}
+use Rattle.alg_model.specs.Polynomials.{evaluate, leading}
 use Rattle.alg_model.specs.Factors.{IsMonic, IsIrreducible}
 use Rattle.alg_model.specs.Values.{degree, values}
 use Rattle.alg_model.specs.Fields.{IsField}
 use Rattle.alg_rings.specs.Laws.{IsPropositional, FieldLaws}
-use Rattle.alg_rings.proofs.Elements.{Element, value, element_ops, element_field, value_injective, values_injective, elements, elements_are, values_valid, value_homomorphism}
+use Rattle.alg_rings.proofs.Elements.{Element, underlying, element_ops, element_field, underlying_injective, underlying_lists_injective, elements, elements_are, underlying_valid, underlying_homomorphism}
 use Rattle.alg_rings.proofs.Homomorphisms.{Homomorphism, leading-map}
-use Rattle.alg_rings.proofs.ResidueFields.{residues_field, residues_propositional, two_le_characteristic}
+use Rattle.alg_rings.proofs.ResidueFields.{prime_residues_field, residues_propositional}
 use Rattle.alg_rings.proofs.Divisors.{Polynomial}
-use Rattle.alg_fields.proofs.AtResidues.{first_power}
+use Rattle.alg_fields.proofs.OverResidues.{first_power}
 use Rattle.alg_fields.proofs.FiniteFields.{residues_characteristic, fermat}
-use Rattle.alg_fields.proofs.Primes.{IsPrime-characteristic}
 use Rattle.alg_fields.proofs.PowerRoots.{image_characteristic}
 use Rattle.alg_finite.proofs.Enumerations.{Enumeration, Repeats, digits, number, length_digits, number_below, digits_number, number_digits, repeats_or_distinct, members_distinct}
 use Rattle.alg_finite.proofs.FieldMaps.{equal_or_not}
@@ -26,23 +25,23 @@ use Rattle.alg_finite.proofs.Extensions.{fixed_few, frobenius_of_value}
 use Rattle.alg_finite.proofs.Values
 
 -- **the residues are a finite field**
-module _ (p : ℕ) (h : IsCharacteristic p) where
+module _ (p : ℕ) (h : IsPrime p) where
   -- the residues modulo a characteristic p are a finite field with p members
-  pub residues_finite : FiniteField (element_ops (residues_field p h).ring) p 1
+  pub residues_finite : FiniteField (element_ops (prime_residues_field p h).ring) p 1
   residues_finite = record {
-    field = element_field (residues_propositional p) (residues_field p h);
-    prime = IsPrime-characteristic p h;
-    characteristic = residues_characteristic p (residues_field p h).ring;
+    field = element_field (residues_propositional p) (prime_residues_field p h);
+    prime = h;
+    characteristic = residues_characteristic p (prime_residues_field p h).ring;
     positive = omega arith;
     members = record {
-      at = λ i. (i % p, mod-lt i (omega (arith, two_le_characteristic p h)));
+      at = λ i. (i % p, mod-lt i (omega (arith, h.above_one)));
       index = λ a. a.0;
       index_below = λ a. subst (λ n. a.0 < n) (first_power p) a.1;
-      at_index = λ a. value_injective (residues_propositional p) _ _ (mod-eq_of_lt a.1);
+      at_index = λ a. underlying_injective (residues_propositional p) _ _ (mod-eq_of_lt a.1);
       index_at = λ i l. mod-eq_of_lt (subst (λ n. i < n) (pow_one p) l);
     };
-    fixed = λ a. ap (power (element_ops (residues_field p h).ring) a) (pow_one p)
-        ∙ fermat p (residues_field p h).ring (IsPrime-characteristic p h) a;
+    fixed = λ a. ap (power (element_ops (prime_residues_field p h).ring) a) (pow_one p)
+        ∙ fermat p (prime_residues_field p h).ring h a;
   }
 
 module _ {A : Type 0} {c : Carrier A} (P : IsPropositional c) (F : IsField c) {p m : ℕ}
@@ -77,17 +76,17 @@ module _ {A : Type 0} {c : Carrier A} (P : IsPropositional c) (F : IsField c) {p
   length_elements : (v : Element (values c f.0)) → length (elements c v.0 v.1.0) ≡ degree f.0
   length_elements v = omega (
     arith,
-    length-map (elements c v.0 v.1.0) (value c),
+    length-map (elements c v.0 v.1.0) (underlying c),
     ap length (elements_are c v.0 v.1.0),
     v.1.1,
   )
 
   value_with : ℕ → Element (values c f.0)
   value_with i = (
-    map (value c) (digits K.members (degree f.0) i),
+    map (underlying c) (digits K.members (degree f.0) i),
     (
-      values_valid c (digits K.members (degree f.0) i),
-      length-map (digits K.members (degree f.0) i) (value c)
+      underlying_valid c (digits K.members (degree f.0) i),
+      length-map (digits K.members (degree f.0) i) (underlying c)
           ∙ length_digits K.members (degree f.0) i,
     ),
   )
@@ -104,11 +103,11 @@ module _ {A : Type 0} {c : Carrier A} (P : IsPropositional c) (F : IsField c) {p
         (ap (λ d. (p ^ m) ^ d) (length_elements v) ∙ pow_mul p m (degree f.0))
         (number_below K.members (elements c v.0 v.1.0));
     at_index = λ v. Values.same_value P F f not_constant monic (value_with (number_of v)) v
-        (ap (map (value c)) (ap (λ d. digits K.members d (number_of v)) (sym (length_elements v))
+        (ap (map (underlying c)) (ap (λ d. digits K.members d (number_of v)) (sym (length_elements v))
         ∙ digits_number K.members (elements c v.0 v.1.0))
         ∙ elements_are c v.0 v.1.0);
     index_at = λ i l. ap (number K.members)
-        (values_injective P _ _ (elements_are c (value_with i).0 (value_with i).1.0))
+        (underlying_lists_injective P _ _ (elements_are c (value_with i).0 (value_with i).1.0))
         ∙ number_digits K.members (degree f.0) i (let l : 1 < p ^ m = above_one K in omega arith)
         (subst (λ n. i < n) (sym (pow_mul p m (degree f.0))) l);
   }
@@ -119,7 +118,7 @@ module _ {A : Type 0} {c : Carrier A} (P : IsPropositional c) (F : IsField c) {p
       (λ a. power (Values.value_element_ops P F f not_constant monic) a (p ^ m))
   T = power_homomorphism L K.prime values_characteristic m
 
-  conjugate_is_root : (i : ℕ) → value_at W (map h G) (frobenius W (p ^ m) i x) ≡ W.zero
+  conjugate_is_root : (i : ℕ) → evaluate W (map h G) (frobenius W (p ^ m) i x) ≡ W.zero
   conjugate_is_root i =
       frobenius_of_value H K L T G i x
       ∙ ap (frobenius W (p ^ m) i) (Values.generator_is_root P F f not_constant monic)
@@ -130,15 +129,15 @@ module _ {A : Type 0} {c : Carrier A} (P : IsPropositional c) (F : IsField c) {p
   leading_not_zero z = L.one_not_zero (sym (sym (leading-map H G) ∙ ap h leading_one ∙ H.one) ∙ z)
     where
       leading_one : leading (element_ops F.ring) G ≡ (element_ops F.ring).one
-      leading_one = value_injective P _ _
-          (leading-map (value_homomorphism F.ring) G ∙ ap (leading c.ops) (elements_are c f.0 f.1.0)
+      leading_one = underlying_injective P _ _
+          (leading-map (underlying_homomorphism F.ring) G ∙ ap (leading c.ops) (elements_are c f.0 f.1.0)
           ∙ monic)
 
   length_image : length (map h G) ≡ length f.0
   length_image = omega (
     arith,
     length-map G h,
-    length-map G (value c),
+    length-map G (underlying c),
     ap length (elements_are c f.0 f.1.0),
   )
 
@@ -154,10 +153,10 @@ module _ {A : Type 0} {c : Carrier A} (P : IsPropositional c) (F : IsField c) {p
   all_return : (k : ℕ) → frobenius W (p ^ m) k x ≡ x → (v : Element (values c f.0))
       → frobenius W (p ^ m) k v ≡ v
   all_return k e v =
-      let g : (g : List (Element c)) × (value_at W (map h g) x ≡ v) =
+      let g : (g : List (Element c)) × (evaluate W (map h g) x ≡ v) =
       Values.value_from_generator P F f not_constant monic v in
       ap (frobenius W (p ^ m) k) (sym g.1) ∙ sym (frobenius_of_value H K L T g.0 k x)
-      ∙ ap (value_at W (map h g.0)) e ∙ g.1
+      ∙ ap (evaluate W (map h g.0)) e ∙ g.1
 
   -- **no fewer than d powers of Frobenius bring the generator back**
   pub generator_period : (k : ℕ) → 0 < k → frobenius W (p ^ m) k x ≡ x → degree f.0 ≤ k

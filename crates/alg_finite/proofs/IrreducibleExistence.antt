@@ -8,6 +8,7 @@ use Rattle.std.proofs.lemmas.Bool.{cases_lt, cases_eq}
 use Rattle.std.proofs.lemmas.List.FromFn.{length-map-range_with_len, get_or-map-range_with_len}
 use Rattle.std.proofs.lemmas.List.Elements.{All-from_get_or}
 use Rattle.std.proofs.lemmas.Nat.Gcd.{le_of_dvd, dvd_of_mod-eq-zero}
+use Rattle.alg_rings.proofs.Divisibility
 use Rattle.alg_model.specs.Coefficients.{Ops, Carrier, times}
 use Rattle.alg_model.specs.Polynomials.{trim, derivative, poly_negative}
 use Rattle.alg_model.specs.Factors.{IsMonic, IsIrreducible, Divides}
@@ -19,23 +20,23 @@ use Rattle.alg_rings.proofs.Rings.{sorted}
 use Rattle.alg_rings.proofs.Lists
 use Rattle.alg_rings.proofs.Trims
 use Rattle.alg_rings.proofs.Monomials.{monomial, monomial_at, monomial_elsewhere}
-use Rattle.alg_rings.proofs.Elements.{Element, value, element_ops, value_homomorphism}
+use Rattle.alg_rings.proofs.Elements.{Element, underlying, element_ops, underlying_homomorphism}
 use Rattle.alg_rings.proofs.Homomorphisms.{derivative-map}
 use Rattle.alg_rings.proofs.Divisors.{Polynomial, polynomial_ops, same_polynomial}
 use Rattle.alg_divisors.proofs.Euclidean
 use Rattle.alg_divisors.proofs.Euclidean.{EuclideanLaws}
 use Rattle.alg_divisors.proofs.Gcd
 use Rattle.alg_divisors.proofs.Gcd.{Coprime, Gcd}
-use Rattle.alg_divisors.proofs.Fields.{polynomials_euclidean}
-use Rattle.alg_divisors.proofs.Polynomials.{divides_to, divides_from}
+use Rattle.alg_divisors.proofs.EuclideanPolynomials.{polynomials_euclidean}
+use Rattle.alg_divisors.proofs.PolynomialFactors.{divides_to, divides_from}
 use Rattle.alg_divisors.proofs.Finite.{IsFinite}
 use Rattle.alg_divisors.proofs.Existence.{irreducible_divisor_exists}
-use Rattle.alg_fields.proofs.Powers
+use Rattle.alg_rings.proofs.Powers
 use Rattle.alg_fields.proofs.Derivatives
 use Rattle.alg_fields.proofs.Derivatives.{raw_derivative}
 use Rattle.alg_fields.proofs.Derivations.{derivative_of, product_rule}
 use Rattle.alg_fields.proofs.Squares
-use Rattle.alg_fields.proofs.Remainders.{divides_iff_reduced}
+use Rattle.alg_fields.proofs.Remainders.{divides_iff_remainder_zero}
 use Rattle.alg_fields.proofs.FermatProduct.{fixing}
 use Rattle.alg_finite.proofs.FiniteField.{FiniteField, frobenius, above_one, pow_strict, pow_positive}
 use Rattle.alg_finite.proofs.Orbits.{period_divides}
@@ -120,7 +121,7 @@ module _ {X : Type 0} {c : Carrier X} (P : IsPropositional c) (Fc : IsField c) {
       ),
       get_or-map-range_with_len (λ i. (K.members.at i).0) 0 (p ^ m) (K.members.index (x, v))
           (K.members.index (x, v)) x (K.members.index_below (x, v)) (omega arith)
-          ∙ ap (value c) (K.members.at_index (x, v)),
+          ∙ ap (underlying c) (K.members.at_index (x, v)),
     );
   }
 
@@ -135,8 +136,8 @@ module _ {X : Type 0} {c : Carrier X} (P : IsPropositional c) (Fc : IsField c) {
   -- ---- it has no square factor
   derivative_is : (j : ℕ) (l : 0 < j) → derivative_of P Fc.ring (N j l) ≡ Q.neg Q.one
   derivative_is j l = same_polynomial P Fc.ring (derivative_of P Fc.ring (N j l)) (Q.neg Q.one)
-      (sym (derivative-map (value_homomorphism Fc.ring) (fixing k ((p ^ m) ^ j)))
-      ∙ ap (map (value c)) (fixing_derivative K.field.ring K.field.one_not_zero ((p ^ m) ^ j)
+      (sym (derivative-map (underlying_homomorphism Fc.ring) (fixing k ((p ^ m) ^ j)))
+      ∙ ap (map (underlying c)) (fixing_derivative K.field.ring K.field.one_not_zero ((p ^ m) ^ j)
       (above j l)
       (times_power K.field.ring (p ^ m) j
       (times_power K.field.ring p m K.characteristic K.positive) l))
@@ -147,7 +148,7 @@ module _ {X : Type 0} {c : Carrier X} (P : IsPropositional c) (Fc : IsField c) {
           (Rings.is_zero_of_not_zero k K.field.ring.zero_test k.one K.field.one_not_zero)
 
   fixing_square_free : (j : ℕ) (l : 0 < j) (g : Polynomial c)
-      → Euclidean.Divides (polynomial_ops P Fc.ring) (Q.mul g g) (N j l) → length g.0 ≡ 1
+      → Divisibility.Divides (polynomial_ops P Fc.ring) (Q.mul g g) (N j l) → length g.0 ≡ 1
   fixing_square_free j l g d = Squares.square_free EU (product_rule P Fc.ring) (record {
     first = Q.zero;
     second = Q.neg Q.one;
@@ -176,7 +177,7 @@ module _ {X : Type 0} {c : Carrier X} (P : IsPropositional c) (Fc : IsField c) {
         ((p ^ m) ^ j) (above j l) x)
         ∙ Values.value_at_generator_element P Fc f irreducible.not_constant monic (N j l)
         ∙ Values.same_value P Fc f irreducible.not_constant monic _ _
-        ((divides_iff_reduced P Fc f irreducible.not_constant monic (N j l)).0 d)))
+        ((divides_iff_remainder_zero P Fc f irreducible.not_constant monic (N j l)).0 d)))
       where
         W : Ops (Element (values c f.0))
         W = Values.value_element_ops P Fc f irreducible.not_constant monic
@@ -231,20 +232,20 @@ module _ {X : Type 0} {c : Carrier X} (P : IsPropositional c) (Fc : IsField c) {
       )
 
   lower_divided : (d j : ℕ) (l : 0 < j) → j < d
-      → Euclidean.Divides (polynomial_ops P Fc.ring) (N j l) (lower d)
+      → Divisibility.Divides (polynomial_ops P Fc.ring) (N j l) (lower d)
   unfolding lower
   lower_divided zero j l r = absurd (omega arith)
   lower_divided (suc zero) j l r = absurd (omega arith)
   lower_divided (suc (suc i)) j l r = ⊎_elim
-      (λ e. Euclidean.divides_same EU.ring (ap₂ Q.mul (same_power e) refl)
-      (Euclidean.divides_product_left EU.ring (N j l) (lower (suc i))))
-      (λ n. Euclidean.divides_multiple EU.ring (N (suc i) (positive_suc i))
+      (λ e. Divisibility.divides_same EU.ring (ap₂ Q.mul (same_power e) refl)
+      (Divisibility.divides_product_left EU.ring (N j l) (lower (suc i))))
+      (λ n. Divisibility.divides_multiple EU.ring (N (suc i) (positive_suc i))
       (lower_divided (suc i) j l (omega arith)))
       (cases_eq j (suc i))
     where
       same_power : j ≡ suc i → N j l ≡ N (suc i) (positive_suc i)
       same_power e = same_polynomial P Fc.ring (N j l) (N (suc i) (positive_suc i))
-          (ap (λ t. map (value c) (fixing k ((p ^ m) ^ t))) e)
+          (ap (λ t. map (underlying c) (fixing k ((p ^ m) ^ t))) e)
 
   -- **there is a monic irreducible polynomial of each degree**
   pub irreducible_exists : (d : ℕ) → 0 < d
@@ -273,23 +274,23 @@ module _ {X : Type 0} {c : Carrier X} (P : IsPropositional c) (Fc : IsField c) {
             (Euclidean.monic_not_zero EU (lower d) (lower_monic d)),
       )
 
-      s_divides : Euclidean.Divides Q s M
-      s_divides = Euclidean.divides_same EU.ring g.1.divides_first.identity
-          (Euclidean.divides_product_left EU.ring s g.0)
+      s_divides : Divisibility.Divides Q s M
+      s_divides = Divisibility.divides_same EU.ring g.1.divides_first.identity
+          (Divisibility.divides_product_left EU.ring s g.0)
 
       found : (e : List X) × IsMonic c e × IsIrreducible c e × Divides c e s.0
           → (f : Polynomial c) × IsMonic c f.0 × IsIrreducible c f.0 × (degree f.0 ≡ d)
       found e =
           let f : Polynomial c = (e.0, e.2.polynomial) in
-          let df : Euclidean.Divides Q f s = divides_from P Fc f s e.3 in
-          let dm : Euclidean.Divides Q f M = Euclidean.divides_trans EU.ring df s_divides in
+          let df : Divisibility.Divides Q f s = divides_from P Fc f s e.3 in
+          let dm : Divisibility.Divides Q f M = Divisibility.divides_trans EU.ring df s_divides in
           let r : d % degree e.0 ≡ 0 =
           factor_degree_divides f e.1 e.2 d l (divides_to P Fc f M dm) in
           let positive : 0 < degree e.0 = let n : 1 < length e.0 = e.2.not_constant in
           omega arith in
           ⊎_elim
           (λ w. absurd (let one : length e.0 ≡ 1 = fixing_square_free d l f (squared f df
-          (Euclidean.divides_trans EU.ring
+          (Divisibility.divides_trans EU.ring
           (divides_from P Fc f (N (degree e.0) positive) (divides_own f e.1 e.2 positive))
           (lower_divided d (degree e.0) positive w)) dm) in
           let n : 1 < length e.0 = e.2.not_constant in omega arith))
@@ -297,10 +298,10 @@ module _ {X : Type 0} {c : Carrier X} (P : IsPropositional c) (Fc : IsField c) {
           (cases_lt (degree e.0) d)
         where
           -- a factor of s that divides the greatest common divisor too divides x^(q^d) - x twice
-          squared : (f : Polynomial c) → Euclidean.Divides Q f s → Euclidean.Divides Q f (lower d)
-              → Euclidean.Divides Q f M → Euclidean.Divides Q (Q.mul f f) M
+          squared : (f : Polynomial c) → Divisibility.Divides Q f s → Divisibility.Divides Q f (lower d)
+              → Divisibility.Divides Q f M → Divisibility.Divides Q (Q.mul f f) M
           squared f df dl dm =
-              let dg : Euclidean.Divides Q f g.0 = Gcd.gcd_greatest EU.ring g.1 dm dl in
+              let dg : Divisibility.Divides Q f g.0 = Gcd.gcd_greatest EU.ring g.1 dm dl in
               record {
                 quotient = Q.mul df.quotient dg.quotient;
                 identity = two_squares EU.ring df.quotient dg.quotient f

@@ -10,13 +10,13 @@ use Rattle.std.proofs.Math.Nat.{mul_comm}
 use Rattle.std.proofs.lemmas.Bool.{cases_lt}
 use Rattle.std.proofs.lemmas.List.{length-map}
 use Rattle.alg_model.specs.Coefficients.{Ops, power}
-use Rattle.alg_model.specs.Polynomials.{value_at, leading, product, scale, shift}
+use Rattle.alg_model.specs.Polynomials.{evaluate, leading, product, scale, shift}
 use Rattle.alg_rings.specs.Laws.{RingLaws}
 use Rattle.alg_rings.proofs.Rings
 use Rattle.alg_rings.proofs.Lists
 use Rattle.alg_rings.proofs.Trims
 use Rattle.alg_rings.proofs.Homomorphisms.{Homomorphism, product-map, leading-map}
-use Rattle.alg_fields.proofs.Points
+use Rattle.alg_rings.proofs.Evaluation
 use Rattle.alg_fields.proofs.Roots.{linear, linear_product, linear_product_is, value_of_linear}
 use Rattle.alg_finite.proofs.Enumerations.{Distinct, first_below}
 use Rattle.alg_finite.proofs.FieldMaps.{equal_or_not, injective}
@@ -75,12 +75,12 @@ module _ {A : Type 0} {o : Ops A} (R : RingLaws o) where
 
   -- each a is a root of a product with the factor x - a
   pub root_of_first : (a : A) (roots : List A)
-      → value_at o (linear_product o (a ∷ roots)) a ≡ o.zero
+      → evaluate o (linear_product o (a ∷ roots)) a ≡ o.zero
   root_of_first a roots =
-      Points.value_of_product R (linear o a) (linear_product o roots) a
-      ∙ ap (λ t. o.mul t (value_at o (linear_product o roots) a))
+      Evaluation.value_of_product R (linear o a) (linear_product o roots) a
+      ∙ ap (λ t. o.mul t (evaluate o (linear_product o roots) a))
       (value_of_linear R a a ∙ R.add_neg a)
-      ∙ Rings.zero_mul R (value_at o (linear_product o roots) a)
+      ∙ Rings.zero_mul R (evaluate o (linear_product o roots) a)
 
   -- ---- the members of an orbit
   pub length_orbit : (q d : ℕ) (a : A) → length (orbit o q d a) ≡ d
@@ -224,24 +224,24 @@ module _ {A B : Type 0} {k : Ops B} {o : Ops A} {h : B → A} (H : Homomorphism 
         ∙ leading_linear_product F.field.ring (orbit o (p ^ m) O.size a) ∙ sym H.one)
 
     -- it vanishes at a
-    pub orbit_polynomial_vanishes : value_at o (map h O.polynomial) a ≡ o.zero
-    orbit_polynomial_vanishes = ap (λ f. value_at o f a) O.image ∙ at O.size O.period.positive
+    pub orbit_polynomial_vanishes : evaluate o (map h O.polynomial) a ≡ o.zero
+    orbit_polynomial_vanishes = ap (λ f. evaluate o f a) O.image ∙ at O.size O.period.positive
       where
-        at : (d : ℕ) → 0 < d → value_at o (linear_product o (orbit o (p ^ m) d a)) a ≡ o.zero
+        at : (d : ℕ) → 0 < d → evaluate o (linear_product o (orbit o (p ^ m) d a)) a ≡ o.zero
         at zero l = absurd (omega arith)
         at (suc d) l = root_of_first F.field.ring a (orbit o (p ^ m) d (power o a (p ^ m)))
 
     -- **a polynomial over B that is zero at a is zero on the orbit, so has more coefficients than
     -- the orbit has members**
-    pub zero_on_orbit : (f : List B) → value_at o (map h f) a ≡ o.zero → (i : ℕ)
-        → value_at o (map h f) (frobenius o (p ^ m) i a) ≡ o.zero
+    pub zero_on_orbit : (f : List B) → evaluate o (map h f) a ≡ o.zero → (i : ℕ)
+        → evaluate o (map h f) (frobenius o (p ^ m) i a) ≡ o.zero
     zero_on_orbit f e i =
         frobenius_of_value H K F.field (power_homomorphism F.field F.prime F.characteristic m) f i a
         ∙ ap (frobenius o (p ^ m) i) e ∙ frobenius_of_power F.field.ring p m i o.zero
         ∙ (power_homomorphism F.field F.prime F.characteristic (m * i)).zero
 
     -- so it has more coefficients than the orbit has members
-    pub vanishing_is_long : (f : List B) → leading k f ≢ k.zero → value_at o (map h f) a ≡ o.zero
+    pub vanishing_is_long : (f : List B) → leading k f ≢ k.zero → evaluate o (map h f) a ≡ o.zero
         → O.size < length f
     vanishing_is_long f l e =
         omega (

@@ -2,8 +2,9 @@
 -- with q^e members exactly if d divides e.
 use Rattle.std.proofs.Common.{◌≡◌, ◌≢◌, ◌⊎◌, ⊎_elim, inl, inr, ℕ, zero, suc, ◌*◌, ◌%◌, ◌^◌, ◌<◌, [], ◌∷◌, length, map, refl, ap, ap₂, sym, ◌∙◌, arith}
 use Rattle.std.proofs.lemmas.List.{length-map}
+use Rattle.alg_rings.proofs.Divisibility
 use Rattle.alg_model.specs.Coefficients.{Ops, Carrier, power}
-use Rattle.alg_model.specs.Polynomials.{leading, sum, value_at}
+use Rattle.alg_model.specs.Polynomials.{leading, sum, evaluate}
 use Rattle.alg_model.specs.Factors.{IsMonic, IsIrreducible, Divides}
 use Rattle.alg_model.specs.Values.{degree, values}
 use Rattle.alg_model.specs.Fields.{IsField}
@@ -11,21 +12,21 @@ use Rattle.alg_rings.specs.Laws.{RingLaws, FieldLaws, IsPropositional}
 use Rattle.alg_rings.proofs.Rings
 use Rattle.alg_rings.proofs.Monomials.{monomial}
 use Rattle.alg_rings.proofs.Division.{zero_from_product}
-use Rattle.alg_rings.proofs.Carriers.{leading_not_zero}
-use Rattle.alg_rings.proofs.Elements.{Element, value, element_ops, element_laws}
+use Rattle.alg_rings.proofs.CarrierPolynomials.{leading_not_zero}
+use Rattle.alg_rings.proofs.Elements.{Element, underlying, element_ops, element_laws}
 use Rattle.alg_rings.proofs.Homomorphisms.{Homomorphism, sum-map, leading-map}
 use Rattle.alg_rings.proofs.Divisors.{Polynomial, polynomial_ops, same_polynomial}
 use Rattle.alg_divisors.proofs.Euclidean
 use Rattle.alg_divisors.proofs.Euclidean.{EuclideanLaws}
-use Rattle.alg_divisors.proofs.Fields.{polynomials_euclidean}
-use Rattle.alg_divisors.proofs.Polynomials.{divides_from}
-use Rattle.alg_fields.proofs.Remainders.{divides_iff_reduced}
+use Rattle.alg_divisors.proofs.EuclideanPolynomials.{polynomials_euclidean}
+use Rattle.alg_divisors.proofs.PolynomialFactors.{divides_from}
+use Rattle.alg_fields.proofs.Remainders.{divides_iff_remainder_zero}
 use Rattle.alg_fields.proofs.FermatProduct.{fixing, length_fixing, leading_fixing, value_of_fixing}
 use Rattle.alg_finite.proofs.Enumerations.{first_below, members_distinct}
 use Rattle.alg_finite.proofs.FieldMaps.{injective}
 use Rattle.alg_finite.proofs.FiniteField.{FiniteField, frobenius_of_power, frobenius_multiple, root_bound_at, pow_mul, above_one}
 use Rattle.alg_finite.proofs.Orbits.{period_divides}
-use Rattle.alg_finite.proofs.Evaluation.{coefficients, evaluate, polynomial_of, coefficients_of, length_coefficients, leading_coefficients, evaluate_product}
+use Rattle.alg_finite.proofs.Evaluation.{coefficients, evaluate_by, polynomial_of, coefficients_of, length_coefficients, leading_coefficients, evaluate_product}
 use Rattle.alg_finite.proofs.MinimalPolynomials.{root_period}
 use Rattle.alg_finite.proofs.Values
 use Rattle.alg_finite.proofs.FiniteValues.{generator_returns}
@@ -55,7 +56,7 @@ module _ {X : Type 0} {c : Carrier X} (P : IsPropositional c) (Fc : IsField c) w
   -- ---- the polynomial x^n - x
   pub leading_fixing_not_zero : (n : ℕ) → 1 < n
       → leading (element_ops Fc.ring) (fixing (element_ops Fc.ring) n) ≢ (element_ops Fc.ring).zero
-  leading_fixing_not_zero n l z = Fc.one_not_zero (ap (value c) (sym (leading_fixing k n l) ∙ z))
+  leading_fixing_not_zero n l z = Fc.one_not_zero (ap (underlying c) (sym (leading_fixing k n l) ∙ z))
 
   -- x^n - x over c
   abbrev pub fixing_polynomial : (n : ℕ) → 1 < n → Polynomial c
@@ -64,30 +65,30 @@ module _ {X : Type 0} {c : Carrier X} (P : IsPropositional c) (Fc : IsField c) w
 
   -- of degree n
   pub length_fixing_polynomial : (n : ℕ) (l : 1 < n) → length (fixing_polynomial n l).0 ≡ suc n
-  length_fixing_polynomial n l = length-map (fixing k n) (value c) ∙ length_fixing k n l
+  length_fixing_polynomial n l = length-map (fixing k n) (underlying c) ∙ length_fixing k n l
 
   -- monic
   pub fixing_monic : (n : ℕ) (l : 1 < n) → IsMonic c (fixing_polynomial n l).0
   fixing_monic n l =
       sym (leading_coefficients P Fc.ring (fixing_polynomial n l))
-      ∙ ap (value c) (ap (leading k)
+      ∙ ap (underlying c) (ap (leading k)
       (coefficients_of P Fc.ring (fixing k n) (leading_fixing_not_zero n l)) ∙ leading_fixing k n l)
 
   -- its value is a^n - a
   pub evaluate_fixing : {A : Type 0} {o : Ops A} (L : RingLaws o) {h : Element c → A}
       (H : Homomorphism (element_ops Fc.ring) o h) (n : ℕ) (l : 1 < n) (a : A)
-      → evaluate c h o (fixing_polynomial n l) a ≡ o.add (power o a n) (o.neg a)
+      → evaluate_by c h o (fixing_polynomial n l) a ≡ o.add (power o a n) (o.neg a)
   evaluate_fixing {A} {o} L {h} H n l a =
-      ap (λ w. value_at o (map h w) a)
+      ap (λ w. evaluate o (map h w) a)
       (coefficients_of P Fc.ring (fixing k n) (leading_fixing_not_zero n l))
-      ∙ ap (λ w. value_at o w a) (fixing-map H n) ∙ value_of_fixing L n a
+      ∙ ap (λ w. evaluate o w a) (fixing-map H n) ∙ value_of_fixing L n a
 
   -- a polynomial that isn't zero and vanishes on all of a finite field has more coefficients than
   -- that has members
   pub vanishing_everywhere_is_long : {A : Type 0} {o : Ops A} {p n : ℕ} (F : FiniteField o p n)
       {h : Element c → A} (H : Homomorphism (element_ops Fc.ring) o h)
       (s : Polynomial c) → s ≢ (polynomial_ops P Fc.ring).zero
-      → ((i : ℕ) → i < p ^ n → evaluate c h o s (F.members.at i) ≡ o.zero) → p ^ n < length s.0
+      → ((i : ℕ) → i < p ^ n → evaluate_by c h o s (F.members.at i) ≡ o.zero) → p ^ n < length s.0
   vanishing_everywhere_is_long {A} {o} {p} {n} F {h} H s ns all =
       omega (
         arith,
@@ -97,7 +98,7 @@ module _ {X : Type 0} {c : Carrier X} (P : IsPropositional c) (Fc : IsField c) w
             (λ z. leading_not_zero P Fc.ring s.0 s.1
             (λ t. ns (same_polynomial P Fc.ring s Q.zero t))
             (sym (leading_coefficients P Fc.ring s)
-            ∙ ap (value c) (injective (element_laws P Fc.ring) F.field.ring H
+            ∙ ap (underlying c) (injective (element_laws P Fc.ring) F.field.ring H
             (leading k (coefficients c s)) k.zero
             (leading-map H (coefficients c s) ∙ z ∙ sym H.zero))))
             F.members.at (p ^ n) (members_distinct F.members) all,
@@ -110,8 +111,8 @@ module _ {X : Type 0} {c : Carrier X} (P : IsPropositional c) (Fc : IsField c) w
     pub divides_fixing : (t : ℕ) (l : 1 < (p ^ m) ^ (degree f.0 * t))
         → Divides c f.0 (fixing_polynomial ((p ^ m) ^ (degree f.0 * t)) l).0
     divides_fixing t l =
-        (divides_iff_reduced P Fc f not_constant monic N).1
-        (ap (value (values c f.0))
+        (divides_iff_remainder_zero P Fc f not_constant monic N).1
+        (ap (underlying (values c f.0))
         (sym (Values.value_at_generator_element P Fc f not_constant monic N)
         ∙ evaluate_fixing laws.ring H ((p ^ m) ^ (degree f.0 * t)) l x
         ∙ ap (λ v. W.add v (W.neg x))
@@ -138,12 +139,12 @@ module _ {X : Type 0} {c : Carrier X} (P : IsPropositional c) (Fc : IsField c) w
     module _ {A : Type 0} {o : Ops A} (e : ℕ) (F : FiniteField o p (m * e)) {h : Element c → A}
         (H : Homomorphism (element_ops Fc.ring) o h) where
       -- **a root exists where the degree divides**
-      pub root_exists : (t : ℕ) → e ≡ degree f.0 * t → (a : A) × (evaluate c h o f a ≡ o.zero)
+      pub root_exists : (t : ℕ) → e ≡ degree f.0 * t → (a : A) × (evaluate_by c h o f a ≡ o.zero)
       root_exists t r = ⊎_elim
           (λ i. (
             F.members.at i.0,
-            zero_from_product F.field (evaluate c h o s (F.members.at i.0))
-                (evaluate c h o f (F.members.at i.0)) (product_zero (F.members.at i.0)) i.2,
+            zero_from_product F.field (evaluate_by c h o s (F.members.at i.0))
+                (evaluate_by c h o f (F.members.at i.0)) (product_zero (F.members.at i.0)) i.2,
           ))
           (λ none. absurd (omega (
             arith,
@@ -154,7 +155,7 @@ module _ {X : Type 0} {c : Carrier X} (P : IsPropositional c) (Fc : IsField c) w
             vanishing_everywhere_is_long F H s (Euclidean.quotient_not_zero EU d n)
                 (λ i w. ⊎_elim (λ z. z) (λ z. absurd (none i w z)) (zero_or_not (F.members.at i))),
           )))
-          (first_below (λ i. evaluate c h o s (F.members.at i) ≢ o.zero)
+          (first_below (λ i. evaluate_by c h o s (F.members.at i) ≢ o.zero)
           (λ i. ⊎_elim (λ z. inr (λ y. y z)) (λ z. inl z) (zero_or_not (F.members.at i)))
           (p ^ (m * e)))
         where
@@ -170,25 +171,25 @@ module _ {X : Type 0} {c : Carrier X} (P : IsPropositional c) (Fc : IsField c) w
           n : N ≢ Q.zero
           n = Euclidean.monic_not_zero EU N (fixing_monic ((p ^ m) ^ (degree f.0 * t)) l)
 
-          d : Euclidean.Divides (polynomial_ops P Fc.ring) f N
+          d : Divisibility.Divides (polynomial_ops P Fc.ring) f N
           d = divides_from P Fc f N (divides_fixing t l)
 
           s : Polynomial c
           s = d.quotient
 
-          zero_or_not : (a : A) → (evaluate c h o s a ≡ o.zero) ⊎ (evaluate c h o s a ≢ o.zero)
-          zero_or_not a = Rings.zero_or_not o F.field.ring.zero_test (evaluate c h o s a)
+          zero_or_not : (a : A) → (evaluate_by c h o s a ≡ o.zero) ⊎ (evaluate_by c h o s a ≢ o.zero)
+          zero_or_not a = Rings.zero_or_not o F.field.ring.zero_test (evaluate_by c h o s a)
 
-          product_zero : (a : A) → o.mul (evaluate c h o s a) (evaluate c h o f a) ≡ o.zero
+          product_zero : (a : A) → o.mul (evaluate_by c h o s a) (evaluate_by c h o f a) ≡ o.zero
           product_zero a =
               sym (evaluate_product P Fc.ring F.field.ring H a s f)
-              ∙ ap (λ g. evaluate c h o g a) d.identity
+              ∙ ap (λ g. evaluate_by c h o g a) d.identity
               ∙ evaluate_fixing F.field.ring H ((p ^ m) ^ (degree f.0 * t)) l a
               ∙ ap (λ v. o.add v (o.neg a)) (ap (power o a) size ∙ F.fixed a)
               ∙ F.field.ring.add_neg a
 
       -- **and only there**
-      pub degree_divides : (a : A) → evaluate c h o f a ≡ o.zero → e % degree f.0 ≡ 0
+      pub degree_divides : (a : A) → evaluate_by c h o f a ≡ o.zero → e % degree f.0 ≡ 0
       degree_divides a z =
           period_divides F m a (degree f.0) (root_period P Fc K F H f monic irreducible a z) e
           (frobenius_of_power F.field.ring p m e a ∙ F.fixed a)

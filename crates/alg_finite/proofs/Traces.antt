@@ -6,15 +6,16 @@
 use Rattle.std.proofs.Common.{◌≡◌, ◌≢◌, ◌⊎◌, ⊎_elim, inl, inr, ℕ, zero, suc, ◌+◌, ◌-◌, ◌*◌, ◌<◌, ◌≤◌, List, [], ◌∷◌, length, map, slice_index_or, refl, ap, ap₂, sym, ◌∙◌, arith, mul-zero, mul-suc, add-zero}
 use Rattle.std.specs.List.{range_with_len}
 use Rattle.alg_model.specs.Coefficients.{Ops, power}
-use Rattle.alg_model.specs.Polynomials.{value_at}
+use Rattle.alg_model.specs.Polynomials.{evaluate}
 use Rattle.alg_model.specs.Conjugates.{sum_all, product_all}
 use Rattle.alg_rings.specs.Laws.{RingLaws, FieldLaws}
 use Rattle.alg_rings.proofs.Rings
 use Rattle.alg_rings.proofs.Rings.{sorted, expanded}
 use Rattle.alg_rings.proofs.Homomorphisms.{Homomorphism, power-map}
 use Rattle.alg_rings.proofs.Division.{zero_from_product}
-use Rattle.alg_linear.proofs.Sums.{total, total_same, total_zero, total_add, total_scale, total_single, total_last, total_swap}
-use Rattle.alg_fields.proofs.Points
+use Rattle.alg_linear.specs.PrivateGrids.{total}
+use Rattle.alg_linear.proofs.Sums.{total_same, total_zero, total_add, total_scale, total_single, total_last, total_swap}
+use Rattle.alg_rings.proofs.Evaluation
 use Rattle.alg_fields.proofs.Roots.{linear, linear_product, value_of_linear}
 use Rattle.alg_finite.proofs.Enumerations.{Distinct, first_below}
 use Rattle.alg_finite.proofs.FiniteField.{frobenius, frobenius_none, frobenius_next, frobenius_last, frobenius_add}
@@ -265,16 +266,16 @@ module _ {A : Type 0} {o : Ops A} (L : FieldLaws o) (q : ℕ)
     all_zero : ((k : ℕ) → k < e → trace_of o q e (power o x k ⊗ a) ≡ O) → (g : List A) (j : ℕ)
         → j + length g ≤ e
         → total o e (λ i. power o (frobenius o q i x) j ⊗
-        (value_at o g (frobenius o q i x) ⊗ frobenius o q i a)) ≡ O
+        (evaluate o g (frobenius o q i x) ⊗ frobenius o q i a)) ≡ O
     all_zero z [] j l = total_zero L.ring e _
         (λ i _. ap (λ t. power o (frobenius o q i x) j ⊗ t) (Rings.zero_mul L.ring _)
         ∙ Rings.mul_zero L.ring _)
     all_zero z (c ∷ g) j l =
         sums_same o e _ _ (λ i. split (power o (frobenius o q i x) j) c (frobenius o q i x)
-        (value_at o g (frobenius o q i x)) (frobenius o q i a))
+        (evaluate o g (frobenius o q i x)) (frobenius o q i a))
         ∙ total_add L.ring e (λ i. c ⊗ (power o (frobenius o q i x) j ⊗ frobenius o q i a))
         (λ i. power o (frobenius o q i x) (suc j) ⊗
-        (value_at o g (frobenius o q i x) ⊗ frobenius o q i a))
+        (evaluate o g (frobenius o q i x) ⊗ frobenius o q i a))
         ∙ ap₂ ◌⊕◌
         (total_scale L.ring e c (λ i. power o (frobenius o q i x) j ⊗ frobenius o q i a)
         ∙ ap (λ t. c ⊗ t) (sums_same o e _ _ (λ i. sym (conjugate_power i j)) ∙ z j (omega arith))
@@ -289,7 +290,7 @@ module _ {A : Type 0} {o : Ops A} (L : FieldLaws o) (q : ℕ)
         → ((k : ℕ) → k < e → trace_of o q e (power o x k ⊗ a) ≡ O) → ⊥
     traces_not_all_zero d l n z =
         n (sym (frobenius_none L.ring q a)
-        ∙ zero_from_product L (value_at o g x₀) (frobenius o q 0 a) at_first not_root)
+        ∙ zero_from_product L (evaluate o g x₀) (frobenius o q 0 a) at_first not_root)
       where
         x₀ : A
         x₀ = frobenius o q 0 x
@@ -311,38 +312,38 @@ module _ {A : Type 0} {o : Ops A} (L : FieldLaws o) (q : ℕ)
           length_orbit L.ring q (e - 1) (power o x q),
         )
 
-        not_root : value_at o g x₀ ≢ O
+        not_root : evaluate o g x₀ ≢ O
         not_root s =
             let r : (i : ℕ) × (i < length roots) × (slice_index_or roots i O ≡ x₀) =
             root_of_linear_product L roots x₀ O s in
             let m : r.0 < e - 1 = omega (arith, r.1, length_orbit L.ring q (e - 1) (power o x q)) in
             d 0 (suc r.0) (omega arith) (omega arith) (sym r.2 ∙ root_is r.0 O m)
 
-        vanishes : (i : ℕ) → i < e → i ≢ 0 → value_at o g (frobenius o q i x) ≡ O
+        vanishes : (i : ℕ) → i < e → i ≢ 0 → evaluate o g (frobenius o q i x) ≡ O
         vanishes zero m k = absurd (k refl)
         vanishes (suc i) m k =
             value_at_member roots i (omega (arith, length_orbit L.ring q (e - 1) (power o x q)))
             (frobenius o q (suc i) x) (root_is i O (omega arith))
           where
             value_at_member : (rs : List A) (i : ℕ) → i < length rs → (y : A)
-                → slice_index_or rs i O ≡ y → value_at o (linear_product o rs) y ≡ O
+                → slice_index_or rs i O ≡ y → evaluate o (linear_product o rs) y ≡ O
             value_at_member [] i r y s = absurd (omega arith)
             value_at_member (b ∷ rs) zero r y s =
-                Points.value_of_product L.ring (linear o b) (linear_product o rs) y
-                ∙ ap (λ t. t ⊗ value_at o (linear_product o rs) y)
+                Evaluation.value_of_product L.ring (linear o b) (linear_product o rs) y
+                ∙ ap (λ t. t ⊗ evaluate o (linear_product o rs) y)
                 (value_of_linear L.ring b y ∙ ap (λ t. t ⊕ neg b) (sym s) ∙ L.ring.add_neg b)
                 ∙ Rings.zero_mul L.ring _
             value_at_member (b ∷ rs) (suc i) r y s =
-                Points.value_of_product L.ring (linear o b) (linear_product o rs) y
-                ∙ ap (λ t. value_at o (linear o b) y ⊗ t) (value_at_member rs i (omega arith) y s)
+                Evaluation.value_of_product L.ring (linear o b) (linear_product o rs) y
+                ∙ ap (λ t. evaluate o (linear o b) y ⊗ t) (value_at_member rs i (omega arith) y s)
                 ∙ Rings.mul_zero L.ring _
 
-        at_first : value_at o g x₀ ⊗ frobenius o q 0 a ≡ O
+        at_first : evaluate o g x₀ ⊗ frobenius o q 0 a ≡ O
         at_first =
-            sym (L.ring.one_mul (value_at o g x₀ ⊗ frobenius o q 0 a))
+            sym (L.ring.one_mul (evaluate o g x₀ ⊗ frobenius o q 0 a))
             ∙ sym (total_single L.ring e
             (λ i. power o (frobenius o q i x) 0 ⊗
-            (value_at o g (frobenius o q i x) ⊗ frobenius o q i a)) 0 l
+            (evaluate o g (frobenius o q i x) ⊗ frobenius o q i a)) 0 l
             (λ i m k. ap (λ t. power o (frobenius o q i x) 0 ⊗ (t ⊗ frobenius o q i a))
             (vanishes i m k)
             ∙ ap (λ t. power o (frobenius o q i x) 0 ⊗ t)

@@ -5,12 +5,12 @@ use Rattle.std.proofs.Common.{◌≡◌, ◌-◌, ◌<◌, List, [], ◌∷◌, 
 use Rattle.std.proofs.lemmas.List.{length-replicate}
 use Rattle.std.proofs.lemmas.List.Elements.{All-append, All-replicate}
 use Rattle.alg_model.specs.Coefficients.{Ops, Carrier}
-use Rattle.alg_model.specs.Polynomials.{value_at, trim, scale, product}
+use Rattle.alg_model.specs.Polynomials.{evaluate, trim, scale, product}
 use Rattle.alg_model.specs.Factors.{IsMonic, IsIrreducible}
-use Rattle.alg_model.specs.Values.{degree, padded, reduced, values}
+use Rattle.alg_model.specs.Values.{degree, padded, remainder, values}
 use Rattle.alg_model.specs.Fields.{IsField}
 use Rattle.alg_rings.specs.Laws.{IsPropositional, FieldLaws}
-use Rattle.alg_rings.proofs.Elements.{Element, value, element_ops, element_field, value_injective, elements, elements_are, values_valid}
+use Rattle.alg_rings.proofs.Elements.{Element, underlying, element_ops, element_field, underlying_injective, elements, elements_are, underlying_valid}
 use Rattle.alg_rings.proofs.Homomorphisms.{Homomorphism}
 use Rattle.alg_rings.proofs.Divisors.{Polynomial, polynomial_ops, divides_itself}
 use Rattle.alg_rings.proofs.Lists
@@ -27,11 +27,11 @@ use Rattle.alg_finite.proofs.FieldMaps.{field_homomorphism}
 pub kept_value : {A B : Type 0} (o : Ops A) (o' : Ops B) (h : A → B) → h o.zero ≡ o'.zero
     → ((x y : A) → h (o.add x y) ≡ o'.add (h x) (h y))
     → ((x y : A) → h (o.mul x y) ≡ o'.mul (h x) (h y)) → (f : List A) (a : A)
-    → h (value_at o f a) ≡ value_at o' (map h f) (h a)
+    → h (evaluate o f a) ≡ evaluate o' (map h f) (h a)
 kept_value o o' h z add mul [] a = z
 kept_value o o' h z add mul (x ∷ f) a =
-    add x (o.mul a (value_at o f a))
-    ∙ ap (o'.add (h x)) (mul a (value_at o f a)
+    add x (o.mul a (evaluate o f a))
+    ∙ ap (o'.add (h x)) (mul a (evaluate o f a)
     ∙ ap (o'.mul (h a)) (kept_value o o' h z add mul f a))
 
 -- one map after another, member by member
@@ -63,24 +63,24 @@ module _ {A : Type 0} {c : Carrier A} (P : IsPropositional c) (F : IsField c) (f
 
   -- values with one list are equal
   pub same_value : (x y : Element (values c f.0)) → x.0 ≡ y.0 → x ≡ y
-  same_value x y e = value_injective (values_propositional P f.0) x y e
+  same_value x y e = underlying_injective (values_propositional P f.0) x y e
 
   -- ---- remainders
-  abbrev pub remainder : Polynomial c → Element (values c f.0)
-  remainder a = (reduced c.ops f.0 a.0, Remainders.reduced_value P F f not_constant monic a)
+  abbrev pub remainder_element : Polynomial c → Element (values c f.0)
+  remainder_element a = (remainder c.ops f.0 a.0, Remainders.remainder_value P F f not_constant monic a)
 
   -- the remainder of a sum
   pub remainder_add : (a b : Polynomial c)
-      → remainder (Q.add a b) ≡ value_element_ops.add (remainder a) (remainder b)
-  remainder_add a b = same_value _ _ (Remainders.reduced_sum P F f not_constant monic a b)
+      → remainder_element (Q.add a b) ≡ value_element_ops.add (remainder_element a) (remainder_element b)
+  remainder_add a b = same_value _ _ (Remainders.remainder_sum P F f not_constant monic a b)
 
   -- the remainder of a product
   pub remainder_mul : (a b : Polynomial c)
-      → remainder (Q.mul a b) ≡ value_element_ops.mul (remainder a) (remainder b)
-  remainder_mul a b = same_value _ _ (Remainders.reduced_product P F f not_constant monic a b)
+      → remainder_element (Q.mul a b) ≡ value_element_ops.mul (remainder_element a) (remainder_element b)
+  remainder_mul a b = same_value _ _ (Remainders.remainder_product P F f not_constant monic a b)
 
   -- the remainder of zero
-  pub remainder_zero : remainder Q.zero ≡ value_element_ops.zero
+  pub remainder_zero : remainder_element Q.zero ≡ value_element_ops.zero
   remainder_zero = same_value _ _ refl
 
   -- ---- constants
@@ -96,12 +96,12 @@ module _ {A : Type 0} {c : Carrier A} (P : IsPropositional c) (F : IsField c) (f
   constant_element a = (padded c.ops (degree f.0) (a.0 ∷ []), constant_valid a)
 
   -- a constant is its own remainder
-  pub remainder_constant : (a : Element c) → remainder (constant P F.ring a) ≡ constant_element a
+  pub remainder_constant : (a : Element c) → remainder_element (constant P F.ring a) ≡ constant_element a
   remainder_constant a = same_value _ _
-      (ap (reduced c.ops f.0) (sym
+      (ap (remainder c.ops f.0) (sym
       (ap (λ g. g.0) (Classes.class_of_padded P F.ring (degree f.0) (a.0 ∷ []) (alone P F.ring a)
       (constant_valid a).0)))
-      ∙ Remainders.reduced_of_value P F f not_constant monic (padded c.ops (degree f.0) (a.0 ∷ []))
+      ∙ Remainders.remainder_of_value P F f not_constant monic (padded c.ops (degree f.0) (a.0 ∷ []))
       (constant_valid a))
 
   -- **constants keep the operations**
@@ -110,49 +110,49 @@ module _ {A : Type 0} {c : Carrier A} (P : IsPropositional c) (F : IsField c) (f
   constant_element_homomorphism i = field_homomorphism (element_field P F) (value_laws i)
       (same_value _ _ refl)
       (λ a b. sym (remainder_constant ((element_ops F.ring).add a b))
-      ∙ ap remainder ((constant_homomorphism P F.ring).add a b)
+      ∙ ap remainder_element ((constant_homomorphism P F.ring).add a b)
       ∙ remainder_add (constant P F.ring a) (constant P F.ring b)
       ∙ ap₂ value_element_ops.add (remainder_constant a) (remainder_constant b))
       (λ a b. sym (remainder_constant ((element_ops F.ring).mul a b))
-      ∙ ap remainder ((constant_homomorphism P F.ring).mul a b)
+      ∙ ap remainder_element ((constant_homomorphism P F.ring).mul a b)
       ∙ remainder_mul (constant P F.ring a) (constant P F.ring b)
       ∙ ap₂ value_element_ops.mul (remainder_constant a) (remainder_constant b))
 
   -- ---- the generator
   abbrev pub generator_element : Element (values c f.0)
-  generator_element = remainder (Generator.generator P F.ring)
+  generator_element = remainder_element (Generator.generator P F.ring)
 
   abbrev coefficients : Polynomial c → List (Element c)
   coefficients g = elements c g.0 g.1.0
 
   -- **the remainder of g is the value of g at the generator**
   pub value_at_generator_element : (g : Polynomial c)
-      → value_at value_element_ops (map constant_element (coefficients g)) generator_element
-      ≡ remainder g
+      → evaluate value_element_ops (map constant_element (coefficients g)) generator_element
+      ≡ remainder_element g
   value_at_generator_element g =
-      ap (λ w. value_at value_element_ops w generator_element)
-      (sym (map_twice remainder (constant P F.ring) constant_element remainder_constant
+      ap (λ w. evaluate value_element_ops w generator_element)
+      (sym (map_twice remainder_element (constant P F.ring) constant_element remainder_constant
       (coefficients g)))
-      ∙ sym (kept_value Q value_element_ops remainder remainder_zero remainder_add remainder_mul
+      ∙ sym (kept_value Q value_element_ops remainder_element remainder_zero remainder_add remainder_mul
       (map (constant P F.ring) (coefficients g)) (Generator.generator P F.ring))
-      ∙ ap remainder (Generator.polynomial_is_value P F.ring g)
+      ∙ ap remainder_element (Generator.polynomial_is_value P F.ring g)
 
   -- **the generator is a root of f**
-  pub generator_is_root : value_at value_element_ops
+  pub generator_is_root : evaluate value_element_ops
       (map constant_element (coefficients f)) generator_element ≡ value_element_ops.zero
   generator_is_root = value_at_generator_element f
-      ∙ same_value _ _ ((Remainders.divides_iff_reduced P F f not_constant monic f).0
+      ∙ same_value _ _ ((Remainders.divides_iff_remainder_zero P F f not_constant monic f).0
       (divides_itself P F.ring f.0 f.1))
 
   -- each value is a polynomial in the generator
   pub value_from_generator : (v : Element (values c f.0))
       → (g : List (Element c))
-      × (value_at value_element_ops (map constant_element g) generator_element ≡ v)
+      × (evaluate value_element_ops (map constant_element g) generator_element ≡ v)
   value_from_generator v =
       let g : Polynomial c = polynomial_of P F f not_constant monic v.0 v.1 in (
         coefficients g,
         value_at_generator_element g
-            ∙ same_value _ _ (Remainders.reduced_of_value P F f not_constant monic v.0 v.1),
+            ∙ same_value _ _ (Remainders.remainder_of_value P F f not_constant monic v.0 v.1),
       )
 
   -- a constant times a value is the value's multiple, place by place
@@ -161,36 +161,36 @@ module _ {A : Type 0} {c : Carrier A} (P : IsPropositional c) (F : IsField c) (f
   constant_times a v =
       ap (λ w. w.0) (ap₂ value_element_ops.mul (sym (remainder_constant a)) (sym v_is)
       ∙ sym (remainder_mul (constant P F.ring a) V))
-      ∙ ap (reduced c.ops f.0)
+      ∙ ap (remainder c.ops f.0)
       (ap (λ g. g.0) (sym (Classes.class_of_product P F.ring (a.0 ∷ []) v.0
       (alone P F.ring a) v.1.0 product_is_valid))
       ∙ ap (trim c.ops) (Lists.sum_nil c.ops (scale c.ops a.0 v.0)))
-      ∙ Remainders.reduced_of_value P F f not_constant monic (scale c.ops a.0 v.0)
+      ∙ Remainders.remainder_of_value P F f not_constant monic (scale c.ops a.0 v.0)
       (scale_valid F.ring a.0 v.0 a.1 v.1.0, Lists.length_scale c.ops a.0 v.0 ∙ v.1.1)
     where
       V : Polynomial c
       V = polynomial_of P F f not_constant monic v.0 v.1
 
-      v_is : remainder V ≡ v
-      v_is = same_value _ _ (Remainders.reduced_of_value P F f not_constant monic v.0 v.1)
+      v_is : remainder_element V ≡ v
+      v_is = same_value _ _ (Remainders.remainder_of_value P F f not_constant monic v.0 v.1)
 
       product_is_valid : All c.Valid (product c.ops (a.0 ∷ []) v.0)
       product_is_valid = product_valid F.ring (a.0 ∷ []) v.0 (alone P F.ring a) v.1.0
 
   -- the value of its own coefficients at the generator
   pub value_is_own_coefficients : (v : Element (values c f.0))
-      → value_at value_element_ops (map constant_element (elements c v.0 v.1.0)) generator_element
+      → evaluate value_element_ops (map constant_element (elements c v.0 v.1.0)) generator_element
       ≡ v
   value_is_own_coefficients v = value_at_generator_list (elements c v.0 v.1.0)
-      ∙ same_value _ _ (ap (λ w. reduced c.ops f.0 (trim c.ops w)) (elements_are c v.0 v.1.0)
-      ∙ Remainders.reduced_of_value P F f not_constant monic v.0 v.1)
+      ∙ same_value _ _ (ap (λ w. remainder c.ops f.0 (trim c.ops w)) (elements_are c v.0 v.1.0)
+      ∙ Remainders.remainder_of_value P F f not_constant monic v.0 v.1)
     where
       value_at_generator_list : (G : List (Element c))
-          → value_at value_element_ops (map constant_element G) generator_element
-          ≡ remainder (class_of P F.ring (map (value c) G) (values_valid c G))
+          → evaluate value_element_ops (map constant_element G) generator_element
+          ≡ remainder_element (class_of P F.ring (map (underlying c) G) (underlying_valid c G))
       value_at_generator_list G =
-          ap (λ w. value_at value_element_ops w generator_element)
-          (sym (map_twice remainder (constant P F.ring) constant_element remainder_constant G))
-          ∙ sym (kept_value Q value_element_ops remainder remainder_zero remainder_add remainder_mul
+          ap (λ w. evaluate value_element_ops w generator_element)
+          (sym (map_twice remainder_element (constant P F.ring) constant_element remainder_constant G))
+          ∙ sym (kept_value Q value_element_ops remainder_element remainder_zero remainder_add remainder_mul
           (map (constant P F.ring) G) (Generator.generator P F.ring))
-          ∙ ap remainder (Generator.value_at_generator P F.ring G (values_valid c G))
+          ∙ ap remainder_element (Generator.value_at_generator P F.ring G (underlying_valid c G))

@@ -8,16 +8,16 @@ use Rattle.std.proofs.lemmas.Bool.{cases_eq}
 use Rattle.std.proofs.lemmas.Nat.Gcd.{dvd_of_mod-eq-zero, mod-eq-zero_of_dvd}
 use Rattle.std.proofs.Math.Nat.{mod-one}
 use Prim.Native.Nat.{◌∣◌}
-use Rattle.alg_model.specs.Coefficients.{Ops, power, residues, IsCharacteristic}
-use Rattle.alg_model.specs.Polynomials.{value_at}
+use Rattle.alg_model.specs.Coefficients.{Ops, power, residues, IsPrime}
+use Rattle.alg_model.specs.Polynomials.{evaluate}
 use Rattle.alg_model.specs.Factors.{IsPolynomial, order_by}
 use Rattle.alg_model.specs.Maps.{Field, IsFiniteField, field_values, degree_of, generator, constants, apply, comp, identity_map, powers, frobenius_map, IsEmbedding}
 use Rattle.alg_model.specs.Roots.{IsRoot, IsLeastRoot}
-use Rattle.alg_rings.proofs.Elements.{Element, value_injective}
+use Rattle.alg_rings.proofs.Elements.{Element, underlying_injective}
 use Rattle.alg_rings.proofs.Homomorphisms.{power-map}
-use Rattle.alg_divisors.proofs.Order.{order_by_total, order_by_same, nat_cmp_same}
+use Rattle.alg_rings.proofs.PolynomialOrder.{order_by_total, order_by_same, nat_cmp_same}
 use Rattle.alg_finite.proofs.FiniteField.{frobenius, frobenius_none, frobenius_add}
-use Rattle.alg_finite.proofs.Evaluation.{coefficients, evaluate}
+use Rattle.alg_finite.proofs.Evaluation.{coefficients, evaluate_by}
 use Rattle.alg_finite.proofs.LeastMembers.{least_member}
 use Rattle.alg_galois.proofs.Fields.{IsModulus, modulus_of, field_of, modulus, propositional, ops, of_residue, evaluate_constants, power_value, finite, laws}
 use Rattle.alg_galois.proofs.FieldEmbeddings.{function_of, function_homomorphism, generator_image, generator_element, keeps_values, root_embedding, apply_root_embedding}
@@ -39,13 +39,13 @@ pub least_root_exists : (F : Field) → IsFiniteField F → (g : List (List ℕ)
     → IsRoot F g w → (v : List ℕ) × IsLeastRoot F g v
 least_root_exists F W g w r =
     let a : (a : Element (field_values F))
-    × (value_at (field_values F).ops g a.0 ≡ (field_values F).ops.zero)
+    × (evaluate (field_values F).ops g a.0 ≡ (field_values F).ops.zero)
     × ((c : Element (field_values F))
-    → value_at (field_values F).ops g c.0 ≡ (field_values F).ops.zero
+    → evaluate (field_values F).ops g c.0 ≡ (field_values F).ops.zero
     → order_by nat_cmp c.0 a.0 ≡ Less → ⊥) =
     least_member (finite F.characteristic W.characteristic F.polynomial (modulus_of F W)).members
     (on_total (λ a. a.0) (order_by_total nat_cmp_total))
-    (λ a. value_at (field_values F).ops g a.0 ≡ (field_values F).ops.zero)
+    (λ a. evaluate (field_values F).ops g a.0 ≡ (field_values F).ops.zero)
     (λ a. lists_equal_or_not _ _) (w, r.0) r.1 in
     (a.0.0, record { root = (a.0.1, a.1); least = λ u s b. a.2 (u, s.0) s.1 b })
 
@@ -61,10 +61,10 @@ least_root_unique F g v w k l = compared (order_by nat_cmp v w) refl
         (k.least w l.root ((order_by_total nat_cmp_total).antisymm w v ∙ ap ordering_reverse e))
 
 -- ---- roots of the polynomial of E in F
-module _ (p : ℕ) (h : IsCharacteristic p) (f : List ℕ) (M : IsModulus p f) (g : List ℕ)
+module _ (p : ℕ) (h : IsPrime p) (f : List ℕ) (M : IsModulus p f) (g : List ℕ)
     (N : IsModulus p g) where
   abbrev IsZero : Element (field_values (field_of p g)) → Type 0
-  IsZero v = evaluate (residues p) (of_residue p h g N) (ops p h g N) (modulus p h f M) v
+  IsZero v = evaluate_by (residues p) (of_residue p h g N) (ops p h g N) (modulus p h f M) v
       ≡ (ops p h g N).zero
 
   root_to : (v : Element (field_values (field_of p g))) → IsZero v
@@ -73,7 +73,7 @@ module _ (p : ℕ) (h : IsCharacteristic p) (f : List ℕ) (M : IsModulus p f) (
 
   root_from : (v : List ℕ) (r : IsRoot (field_of p g) (constants (field_of p g) f) v)
       → IsZero (v, r.0)
-  root_from v r = value_injective (propositional p h g N) _ _
+  root_from v r = underlying_injective (propositional p h g N) _ _
       (evaluate_constants p h g N (modulus p h f M) (v, r.0) ∙ r.1)
 
 module _ (E F : Field) (V : IsFiniteField E) (W : IsFiniteField F) where
@@ -128,7 +128,7 @@ module _ (E F : Field) (V : IsFiniteField E) (W : IsFiniteField F) where
       ≡ power (field_values F).ops v (F.characteristic ^ t) → s % degree_of E ≡ t % degree_of E)
       (λ p h f M g N r q. FieldFrobenius.powers_agree_on_root p h f M g N (v, r.0)
       (root_from p h f M g N v r) s t
-      (value_injective (propositional p h g N) _ _
+      (underlying_injective (propositional p h g N) _ _
       (power_value p h g N (v, r.0) (p ^ s) ∙ q ∙ sym (power_value p h g N (v, r.0) (p ^ t))))) E F
       V W e r
 
@@ -173,13 +173,13 @@ module _ (E F : Field) (V : IsFiniteField E) (W : IsFiniteField F) where
     -- **an embedding keeps the values of polynomials over the prime field**
     pub apply_value_at : (g : List ℕ) → IsPolynomial (residues E.characteristic) g → (a : List ℕ)
         → (field_values E).Valid a
-        → apply F m (value_at (field_values E).ops (constants E g) a)
-        ≡ value_at (field_values F).ops (constants F g) (apply F m a)
+        → apply F m (evaluate (field_values E).ops (constants E g) a)
+        ≡ evaluate (field_values F).ops (constants F g) (apply F m a)
     apply_value_at q k a va =
         of_two_fields (λ E F. IsEmbedding E F m → IsPolynomial (residues E.characteristic) q
         → (field_values E).Valid a
-        → apply F m (value_at (field_values E).ops (constants E q) a)
-        ≡ value_at (field_values F).ops (constants F q) (apply F m a))
+        → apply F m (evaluate (field_values E).ops (constants E q) a)
+        ≡ evaluate (field_values F).ops (constants F q) (apply F m a))
         (λ p h f M g N D k va.
         ap (apply (field_of p g) m) (sym (evaluate_constants p h f M (q, k) (a, va)))
         ∙ ap (λ y. y.0) (keeps_values p h f M g N (function_homomorphism p h f M g N m D)
@@ -200,10 +200,10 @@ module _ (E F : Field) (V : IsFiniteField E) (W : IsFiniteField F) where
         → IsRoot F (constants F g) (apply F m a) → IsRoot E (constants E g) a
     root_from_image q k a va r =
         let z : Element (field_values E) =
-        evaluate (residues E.characteristic)
+        evaluate_by (residues E.characteristic)
         (of_residue E.characteristic V.characteristic E.polynomial (modulus_of E V))
         (ops E.characteristic V.characteristic E.polynomial (modulus_of E V)) (q, k) (a, va) in
-        let s : z.0 ≡ value_at (field_values E).ops (constants E q) a =
+        let s : z.0 ≡ evaluate (field_values E).ops (constants E q) a =
         evaluate_constants E.characteristic V.characteristic E.polynomial (modulus_of E V) (q, k)
         (a, va) in (
           va,
@@ -246,7 +246,7 @@ module _ (E F : Field) (V : IsFiniteField E) (W : IsFiniteField F) where
         × (function_of p h f M g N m D a ≡ (b, vb)) =
         FieldFrobenius.returning_is_image p h f M g N (function_homomorphism p h f M g N m D)
         (b, vb)
-        (value_injective (propositional p h g N) _ _
+        (underlying_injective (propositional p h g N) _ _
         (power_value p h g N (b, vb) (p ^ degree_of (field_of p f)) ∙ e)) in
         (a.0.0, a.0.1, ap (λ y. y.0) a.1))
         E F V W D.same_characteristic D vb e

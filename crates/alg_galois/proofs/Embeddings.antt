@@ -2,9 +2,9 @@
 -- identity keep.
 use Rattle.std.proofs.Common.{◌≡◌, ℕ, ◌^◌, List, [], ap, sym, ◌∙◌, subst, arith}
 use Rattle.std.proofs.lemmas.List.{length-map, get_or-map}
-use Rattle.alg_model.specs.Coefficients.{Ops, power, mod_ops, IsCharacteristic}
+use Rattle.alg_model.specs.Coefficients.{Ops, power, mod_ops, IsPrime}
 use Rattle.alg_model.specs.Maps.{Field, IsFiniteField, field_values, degree_of, generator, apply, comp, identity_map, powers, frobenius_map, IsEmbedding}
-use Rattle.alg_rings.proofs.Elements.{Element, value_injective}
+use Rattle.alg_rings.proofs.Elements.{Element, underlying_injective}
 use Rattle.alg_rings.proofs.Homomorphisms.{Homomorphism}
 use Rattle.alg_linear.proofs.Columns.{column_of_identity, length_identity}
 use Rattle.alg_galois.proofs.Fields.{IsModulus, modulus_of, field_of, at_one_characteristic, propositional, ops, power_value}
@@ -15,7 +15,7 @@ use Rattle.alg_galois.proofs.FieldFrobenius.{frobenius_keeps}
 -- ---- what holds of the polynomials of two or three fields over one characteristic holds of the
 -- fields
 pub of_two_fields : (T : Field → Field → Type 0)
-    → ((p : ℕ) → IsCharacteristic p → (f : List ℕ) → IsModulus p f → (g : List ℕ) → IsModulus p g
+    → ((p : ℕ) → IsPrime p → (f : List ℕ) → IsModulus p f → (g : List ℕ) → IsModulus p g
     → T (field_of p f) (field_of p g))
     → (E F : Field) → IsFiniteField E → IsFiniteField F → E.characteristic ≡ F.characteristic
     → T E F
@@ -26,7 +26,7 @@ of_two_fields T t E F WE WF e =
 
 -- the same for three fields
 pub of_three_fields : (T : Field → Field → Field → Type 0)
-    → ((p : ℕ) → IsCharacteristic p → (f : List ℕ) → IsModulus p f → (g : List ℕ) → IsModulus p g
+    → ((p : ℕ) → IsPrime p → (f : List ℕ) → IsModulus p f → (g : List ℕ) → IsModulus p g
     → (k : List ℕ) → IsModulus p k
     → T (field_of p f) (field_of p g) (field_of p k))
     → (E F G : Field) → IsFiniteField E → IsFiniteField F → IsFiniteField G
@@ -111,7 +111,7 @@ module _ (E F : Field) (V : IsFiniteField E) (W : IsFiniteField F) where
       → (field_values E).Valid b → apply F m a ≡ apply F m b → a ≡ b)
       (λ p h f M g N D a b va vb e. ap (λ y. y.0)
       (image_injective p h f M g N (function_homomorphism p h f M g N m D) (a, va) (b, vb)
-      (value_injective (propositional p h g N) _ _ e))) E F V W D.same_characteristic D
+      (underlying_injective (propositional p h g N) _ _ e))) E F V W D.same_characteristic D
 
   -- **an embedding is the powers of its generator's image**
   pub embedding_is_powers_of_image : (m : List (List ℕ)) → IsEmbedding E F m
@@ -135,7 +135,7 @@ module _ (E F : Field) (V : IsFiniteField E) (W : IsFiniteField F) where
       ∙ sym (embedding_is_powers_of_image n C)
 
 -- ---- three fields
-module _ (p : ℕ) (h : IsCharacteristic p) (f : List ℕ) (M : IsModulus p f) (g : List ℕ)
+module _ (p : ℕ) (h : IsPrime p) (f : List ℕ) (M : IsModulus p f) (g : List ℕ)
     (N : IsModulus p g) (k : List ℕ) (O : IsModulus p k)
     (m n : List (List ℕ)) (D : IsEmbedding (field_of p f) (field_of p g) m)
     (C : IsEmbedding (field_of p g) (field_of p k) n) where

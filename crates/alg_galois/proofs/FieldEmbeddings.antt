@@ -7,16 +7,16 @@ use Rattle.std.proofs.Common.{◌≡◌, ℕ, ◌<◌, List, [], ◌∷◌, leng
 use Rattle.std.specs.List.{range_with_len}
 use Rattle.std.proofs.lemmas.List.{length-map, length-replicate, length-set, get_or-map, ext_get_or, map-set}
 use Rattle.std.proofs.lemmas.List.FromFn.{length-map-range_with_len, get_or-map-range_with_len}
-use Rattle.alg_model.specs.Coefficients.{Ops, power, residues, mod_ops, IsCharacteristic}
-use Rattle.alg_model.specs.Polynomials.{value_at}
+use Rattle.alg_model.specs.Coefficients.{Ops, power, residues, mod_ops, IsPrime}
+use Rattle.alg_model.specs.Polynomials.{evaluate}
 use Rattle.alg_model.specs.Matrices.{combination, unit_column}
 use Rattle.alg_model.specs.Maps.{Field, field_values, degree_of, generator, apply, powers, IsEmbedding}
-use Rattle.alg_rings.proofs.Elements.{Element, value, element_ops, value_injective, values_injective, elements, elements_are, values_valid}
-use Rattle.alg_rings.proofs.Homomorphisms.{Homomorphism, value_at-map, power-map}
-use Rattle.alg_rings.proofs.ResidueFields.{residues_field, residues_propositional}
+use Rattle.alg_rings.proofs.Elements.{Element, underlying, element_ops, underlying_injective, underlying_lists_injective, elements, elements_are, underlying_valid}
+use Rattle.alg_rings.proofs.Homomorphisms.{Homomorphism, evaluate-map, power-map}
+use Rattle.alg_rings.proofs.ResidueFields.{prime_residues_field, residues_propositional}
 use Rattle.alg_finite.proofs.FieldMaps.{field_homomorphism, injective}
 use Rattle.alg_finite.proofs.Combinations.{combine, combine_value, combine_powers, combine_unit, value_of_unit}
-use Rattle.alg_finite.proofs.Evaluation.{coefficients, evaluate}
+use Rattle.alg_finite.proofs.Evaluation.{coefficients, evaluate_by}
 use Rattle.alg_finite.proofs.RootMaps
 use Rattle.alg_finite.proofs.Values
 use Rattle.alg_finite.proofs.Values.{map_twice}
@@ -53,15 +53,15 @@ map_replicate e zero a = refl
 map_replicate e (suc n) a = ap (λ w. e a ∷ w) (map_replicate e n a)
 
 -- ---- a field and its elements
-module _ (p : ℕ) (h : IsCharacteristic p) (f : List ℕ) (M : IsModulus p f) where
+module _ (p : ℕ) (h : IsPrime p) (f : List ℕ) (M : IsModulus p f) where
   -- the class of x
   abbrev pub generator_element : Element (field_values (field_of p f))
   generator_element = (generator (field_of p f), generator_valid p h f M)
 
   -- which is the remainder of x
-  pub generator_is : Values.generator_element (residues_propositional p) (residues_field p h)
+  pub generator_is : Values.generator_element (residues_propositional p) (prime_residues_field p h)
       (modulus p h f M) M.irreducible.not_constant M.monic ≡ generator_element
-  generator_is = value_injective (propositional p h f M) _ _ refl
+  generator_is = underlying_injective (propositional p h f M) _ _ refl
 
   -- the coefficients of a value, as residues
   abbrev pub digits_of : Element (field_values (field_of p f)) → List (Element (residues p))
@@ -69,35 +69,35 @@ module _ (p : ℕ) (h : IsCharacteristic p) (f : List ℕ) (M : IsModulus p f) w
 
   -- a value is the value of its coefficients at the generator
   pub own_value : (a : Element (field_values (field_of p f)))
-      → value_at (ops p h f M) (map (of_residue p h f M) (digits_of a)) generator_element ≡ a
+      → evaluate (ops p h f M) (map (of_residue p h f M) (digits_of a)) generator_element ≡ a
   own_value a =
-      ap (value_at (ops p h f M) (map (of_residue p h f M) (digits_of a))) (sym generator_is)
-      ∙ Values.value_is_own_coefficients (residues_propositional p) (residues_field p h)
+      ap (evaluate (ops p h f M) (map (of_residue p h f M) (digits_of a))) (sym generator_is)
+      ∙ Values.value_is_own_coefficients (residues_propositional p) (prime_residues_field p h)
       (modulus p h f M) M.irreducible.not_constant M.monic a
 
   -- as many as the degree
   pub length_digits_of : (a : Element (field_values (field_of p f)))
       → length (digits_of a) ≡ degree_of (field_of p f)
-  length_digits_of a = sym (length-map (digits_of a) (value (residues p)))
+  length_digits_of a = sym (length-map (digits_of a) (underlying (residues p)))
       ∙ ap length (elements_are (residues p) a.0 a.1.0) ∙ a.1.1
 
   -- the powers of the generator below the degree
   abbrev pub unit : ℕ → List (Element (residues p))
   unit k = slice_set (replicate (degree_of (field_of p f))
-      (element_ops (residues_field p h).ring).zero) k (element_ops (residues_field p h).ring).one
+      (element_ops (prime_residues_field p h).ring).zero) k (element_ops (prime_residues_field p h).ring).one
 
   -- the value with one at place k
   abbrev pub unit_element : ℕ → Element (field_values (field_of p f))
   unit_element k = (
-    map (value (residues p)) (unit k),
+    map (underlying (residues p)) (unit k),
     (
-      values_valid (residues p) (unit k),
-      length-map (unit k) (value (residues p))
+      underlying_valid (residues p) (unit k),
+      length-map (unit k) (underlying (residues p))
           ∙ length-set (replicate (degree_of (field_of p f))
-          (element_ops (residues_field p h).ring).zero) k
-          (element_ops (residues_field p h).ring).one
+          (element_ops (prime_residues_field p h).ring).zero) k
+          (element_ops (prime_residues_field p h).ring).one
           ∙ length-replicate (degree_of (field_of p f))
-          (element_ops (residues_field p h).ring).zero,
+          (element_ops (prime_residues_field p h).ring).zero,
     ),
   )
 
@@ -105,16 +105,16 @@ module _ (p : ℕ) (h : IsCharacteristic p) (f : List ℕ) (M : IsModulus p f) w
   pub unit_is_column : (k : ℕ)
       → (unit_element k).0 ≡ unit_column (mod_ops p) (degree_of (field_of p f)) k
   unit_is_column k =
-      map-set (value (residues p))
-      (replicate (degree_of (field_of p f)) (element_ops (residues_field p h).ring).zero) k
-      (element_ops (residues_field p h).ring).one
+      map-set (underlying (residues p))
+      (replicate (degree_of (field_of p f)) (element_ops (prime_residues_field p h).ring).zero) k
+      (element_ops (prime_residues_field p h).ring).one
       ∙ ap (λ w. slice_set w k 1)
-      (map_replicate (value (residues p)) (degree_of (field_of p f))
-      (element_ops (residues_field p h).ring).zero)
+      (map_replicate (underlying (residues p)) (degree_of (field_of p f))
+      (element_ops (prime_residues_field p h).ring).zero)
 
   -- its coefficients
   pub digits_of_unit : (k : ℕ) → digits_of (unit_element k) ≡ unit k
-  digits_of_unit k = values_injective (residues_propositional p) _ _
+  digits_of_unit k = underlying_lists_injective (residues_propositional p) _ _
       (elements_are (residues p) (unit_element k).0 (unit_element k).1.0)
 
   -- it is the power k of the generator
@@ -122,13 +122,13 @@ module _ (p : ℕ) (h : IsCharacteristic p) (f : List ℕ) (M : IsModulus p f) w
       → unit_element k ≡ power (ops p h f M) generator_element k
   unit_is_power k l =
       sym (own_value (unit_element k))
-      ∙ ap (λ w. value_at (ops p h f M) (map (of_residue p h f M) w) generator_element)
+      ∙ ap (λ w. evaluate (ops p h f M) (map (of_residue p h f M) w) generator_element)
       (digits_of_unit k)
       ∙ value_of_unit (laws p h f M).ring (of_residue_homomorphism p h f M)
       (degree_of (field_of p f)) k generator_element l
 
 -- ---- two fields
-module _ (p : ℕ) (h : IsCharacteristic p) (f : List ℕ) (M : IsModulus p f) (g : List ℕ)
+module _ (p : ℕ) (h : IsPrime p) (f : List ℕ) (M : IsModulus p f) (g : List ℕ)
     (N : IsModulus p g) where
   abbrev E : Field
   E = field_of p f
@@ -163,27 +163,27 @@ module _ (p : ℕ) (h : IsCharacteristic p) (f : List ℕ) (M : IsModulus p f) (
       ∙ ap₂ FO.add s H.one ∙ sym (D.add a R.one ∙ ap (FO.add (of_residue p h g N a)) D.one))
     where
       R : Ops (Element (residues p))
-      R = element_ops (residues_field p h).ring
+      R = element_ops (prime_residues_field p h).ring
 
-      C : Homomorphism (element_ops (residues_field p h).ring) (ops p h f M) (of_residue p h f M)
+      C : Homomorphism (element_ops (prime_residues_field p h).ring) (ops p h f M) (of_residue p h f M)
       C = of_residue_homomorphism p h f M
 
-      D : Homomorphism (element_ops (residues_field p h).ring) (ops p h g N) (of_residue p h g N)
+      D : Homomorphism (element_ops (prime_residues_field p h).ring) (ops p h g N) (of_residue p h g N)
       D = of_residue_homomorphism p h g N
 
   module _ {e : Element (field_values (field_of p f)) → Element (field_values (field_of p g))}
       (H : Homomorphism (ops p h f M) (ops p h g N) e) where
     -- values of polynomials over the prime field are kept
     pub keeps_values : (G : List (Element (residues p))) (a : Element (field_values (field_of p f)))
-        → e (value_at (ops p h f M) (map (of_residue p h f M) G) a)
-        ≡ value_at (ops p h g N) (map (of_residue p h g N) G) (e a)
-    keeps_values G a = value_at-map H (map (of_residue p h f M) G) a
-        ∙ ap (λ w. value_at FO w (e a))
+        → e (evaluate (ops p h f M) (map (of_residue p h f M) G) a)
+        ≡ evaluate (ops p h g N) (map (of_residue p h g N) G) (e a)
+    keeps_values G a = evaluate-map H (map (of_residue p h f M) G) a
+        ∙ ap (λ w. evaluate FO w (e a))
         (map_twice e (of_residue p h f M) (of_residue p h g N) (keeps_constants H) G)
 
     -- **so the image of the generator determines the map**
     pub determined : (a : Element (field_values (field_of p f)))
-        → e a ≡ value_at (ops p h g N) (map (of_residue p h g N) (digits_of p h f M a))
+        → e a ≡ evaluate (ops p h g N) (map (of_residue p h g N) (digits_of p h f M a))
         (e (generator_element p h f M))
     determined a = ap e (sym (own_value p h f M a)) ∙ keeps_values (digits_of p h f M a) x
 
@@ -192,13 +192,13 @@ module _ (p : ℕ) (h : IsCharacteristic p) (f : List ℕ) (M : IsModulus p f) (
     image_injective = injective (laws p h f M).ring (laws p h g N).ring H
 
     -- **the image of the generator is a root**
-    pub generator_image : evaluate (residues p) (of_residue p h g N) (ops p h g N) (modulus p h f M)
+    pub generator_image : evaluate_by (residues p) (of_residue p h g N) (ops p h g N) (modulus p h f M)
         (e (generator_element p h f M)) ≡ (ops p h g N).zero
     generator_image =
         sym (keeps_values (coefficients (residues p) (modulus p h f M)) x)
-        ∙ ap e (ap (λ y. evaluate (residues p) (of_residue p h f M) EO (modulus p h f M) y)
+        ∙ ap e (ap (λ y. evaluate_by (residues p) (of_residue p h f M) EO (modulus p h f M) y)
         (sym (generator_is p h f M))
-        ∙ Values.generator_is_root (residues_propositional p) (residues_field p h)
+        ∙ Values.generator_is_root (residues_propositional p) (prime_residues_field p h)
         (modulus p h f M) M.irreducible.not_constant M.monic)
         ∙ H.zero
 
@@ -207,25 +207,25 @@ module _ (p : ℕ) (h : IsCharacteristic p) (f : List ℕ) (M : IsModulus p f) (
   pub apply_elements : (cs : List (Element (field_values (field_of p g))))
       (a : Element (field_values (field_of p f)))
       → (combine (of_residue p h g N) (ops p h g N) cs (digits_of p h f M a)).0
-      ≡ apply (field_of p g) (map (value (field_values (field_of p g))) cs) a.0
+      ≡ apply (field_of p g) (map (underlying (field_values (field_of p g))) cs) a.0
   apply_elements cs a =
-      combine_value (residues_propositional p) (residues_field p h)
+      combine_value (residues_propositional p) (prime_residues_field p h)
       (modulus p h g N) N.irreducible.not_constant N.monic cs (digits_of p h f M a)
-      ∙ ap (combination (mod_ops p) (degree_of F) (map (value (field_values F)) cs))
+      ∙ ap (combination (mod_ops p) (degree_of F) (map (underlying (field_values F)) cs))
       (elements_are (residues p) a.0 a.1.0)
 
   -- the map 1, v, v^2, .. gives the value at v
   pub powers_are : (v : Element (field_values (field_of p g))) (n : ℕ)
-      → map (value (field_values (field_of p g))) (map (power (ops p h g N) v) (range_with_len 0 n))
+      → map (underlying (field_values (field_of p g))) (map (power (ops p h g N) v) (range_with_len 0 n))
       ≡ powers (field_of p g) v.0 n
-  powers_are v n = map_twice (value (field_values F)) (power FO v) (power (field_values F).ops v.0)
+  powers_are v n = map_twice (underlying (field_values F)) (power FO v) (power (field_values F).ops v.0)
       (power_value p h g N v) (range_with_len 0 n)
 
   -- the map 1, v, v^2, .. gives the value of the coefficients at v
   pub apply_powers : (v : Element (field_values (field_of p g)))
       (a : Element (field_values (field_of p f)))
       → apply (field_of p g) (powers (field_of p g) v.0 (degree_of (field_of p f))) a.0
-      ≡ (value_at (ops p h g N) (map (of_residue p h g N) (digits_of p h f M a)) v).0
+      ≡ (evaluate (ops p h g N) (map (of_residue p h g N) (digits_of p h f M a)) v).0
   apply_powers v a =
       ap (λ m. apply F m a.0) (sym (powers_are v (degree_of E)))
       ∙ sym (apply_elements (map (power FO v) (range_with_len 0 (degree_of E))) a)
@@ -237,7 +237,7 @@ module _ (p : ℕ) (h : IsCharacteristic p) (f : List ℕ) (M : IsModulus p f) (
   pub powers_valid : (v : Element (field_values (field_of p g))) (n : ℕ)
       → All (field_values (field_of p g)).Valid (powers (field_of p g) v.0 n)
   powers_valid v n = subst (All (field_values F).Valid) (powers_are v n)
-      (values_valid (field_values F) (map (power FO v) (range_with_len 0 n)))
+      (underlying_valid (field_values F) (map (power FO v) (range_with_len 0 n)))
 
   -- there are n of them
   pub length_powers : (v : List ℕ) (n : ℕ) → length (powers (field_of p g) v n) ≡ n
@@ -305,18 +305,18 @@ module _ (p : ℕ) (h : IsCharacteristic p) (f : List ℕ) (M : IsModulus p f) (
     -- it keeps the operations
     pub function_homomorphism : Homomorphism (ops p h f M) (ops p h g N) function_of
     function_homomorphism = field_homomorphism (laws p h f M) (laws p h g N)
-        (value_injective (propositional p h g N) _ _ D.one)
-        (λ a b. value_injective (propositional p h g N) _ _ (D.sums a.0 b.0 a.1 b.1))
-        (λ a b. value_injective (propositional p h g N) _ _ (D.products a.0 b.0 a.1 b.1))
+        (underlying_injective (propositional p h g N) _ _ D.one)
+        (λ a b. underlying_injective (propositional p h g N) _ _ (D.sums a.0 b.0 a.1 b.1))
+        (λ a b. underlying_injective (propositional p h g N) _ _ (D.products a.0 b.0 a.1 b.1))
 
     -- its k-th member is the image of the power k of the generator
     pub unit_image : (k : ℕ) → k < degree_of (field_of p f)
         → slice_index_or m k [] ≡ (function_of (unit_element p h f M k)).0
     unit_image k l =
-        let lc : length cs ≡ length m = sym (length-map cs (value (field_values F)))
+        let lc : length cs ≡ length m = sym (length-map cs (underlying (field_values F)))
         ∙ ap length (elements_are (field_values F) m D.images) in
         ap (λ w. slice_index_or w k []) (sym (elements_are (field_values F) m D.images))
-        ∙ get_or-map (value (field_values F)) cs k FO.zero [] (omega (arith, lc, D.count))
+        ∙ get_or-map (underlying (field_values F)) cs k FO.zero [] (omega (arith, lc, D.count))
         ∙ ap (λ y. y.0) (sym (combine_unit (laws p h g N).ring (of_residue_homomorphism p h g N) cs
         (degree_of E) k FO.zero (omega (arith, lc, D.count)) l))
         ∙ ap (λ w. (combine (of_residue p h g N) FO cs w).0) (sym (digits_of_unit p h f M k))
@@ -330,14 +330,14 @@ module _ (p : ℕ) (h : IsCharacteristic p) (f : List ℕ) (M : IsModulus p f) (
 
   -- **a root gives an embedding, its powers**
   module _ (v : Element (field_values (field_of p g)))
-      (root : evaluate (residues p) (of_residue p h g N) (ops p h g N) (modulus p h f M) v
+      (root : evaluate_by (residues p) (of_residue p h g N) (ops p h g N) (modulus p h f M) v
       ≡ (ops p h g N).zero) where
     -- the map of a root keeps the operations
     pub root_function : Homomorphism (ops p h f M) (ops p h g N)
-        (RootMaps.root_map (residues_propositional p) (residues_field p h)
+        (RootMaps.root_map (residues_propositional p) (prime_residues_field p h)
         (modulus p h f M) M.irreducible.not_constant M.monic (laws p h g N)
         (of_residue_homomorphism p h g N) v root)
-    root_function = RootMaps.root_homomorphism (residues_propositional p) (residues_field p h)
+    root_function = RootMaps.root_homomorphism (residues_propositional p) (prime_residues_field p h)
         (modulus p h f M) M.irreducible.not_constant M.monic
         (laws p h g N) (of_residue_homomorphism p h g N) v root M.irreducible
 
@@ -363,8 +363,8 @@ module _ (p : ℕ) (h : IsCharacteristic p) (f : List ℕ) (M : IsModulus p f) (
     pub apply_root_embedding : apply (field_of p g)
         (powers (field_of p g) v.0 (degree_of (field_of p f))) (generator (field_of p f)) ≡ v.0
     apply_root_embedding = apply_powers v x ∙ ap (λ y. y.0)
-        (ap (λ y. value_at FO (map (of_residue p h g N) (digits_of p h f M y)) v)
+        (ap (λ y. evaluate FO (map (of_residue p h g N) (digits_of p h f M y)) v)
         (sym (generator_is p h f M))
-        ∙ RootMaps.root_map_generator (residues_propositional p) (residues_field p h)
+        ∙ RootMaps.root_map_generator (residues_propositional p) (prime_residues_field p h)
         (modulus p h f M) M.irreducible.not_constant M.monic
         (laws p h g N) (of_residue_homomorphism p h g N) v root)

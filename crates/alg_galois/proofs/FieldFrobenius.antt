@@ -4,25 +4,25 @@
 use Rattle.std.proofs.Common.{◌≡◌, ⊎_elim, ℕ, ◌/◌, ◌%◌, ◌^◌, ◌<◌, List, map, ap, sym, ◌∙◌, subst, arith, mod-lt}
 use Rattle.std.proofs.lemmas.Bool.{cases_lt}
 use Rattle.std.proofs.Math.Nat.{div-add-mod}
-use Rattle.alg_model.specs.Coefficients.{Ops, residues, IsCharacteristic}
-use Rattle.alg_model.specs.Polynomials.{value_at}
+use Rattle.alg_model.specs.Coefficients.{Ops, residues, IsPrime}
+use Rattle.alg_model.specs.Polynomials.{evaluate}
 use Rattle.alg_model.specs.Values.{degree}
 use Rattle.alg_model.specs.Maps.{field_values, degree_of}
 use Rattle.alg_rings.proofs.Elements.{Element}
 use Rattle.alg_rings.proofs.Homomorphisms.{Homomorphism, power-map}
-use Rattle.alg_rings.proofs.ResidueFields.{residues_field, residues_propositional}
+use Rattle.alg_rings.proofs.ResidueFields.{prime_residues_field, residues_propositional}
 use Rattle.alg_finite.proofs.FiniteField.{FiniteField, frobenius, frobenius_homomorphism, frobenius_remainder, frobenius_multiple, pow_one, above_one}
 use Rattle.alg_finite.proofs.FiniteValues.{residues_finite}
 use Rattle.alg_finite.proofs.Extensions.{fixed_is_image}
 use Rattle.alg_finite.proofs.Orbits.{Period, orbit_distinct, period_exists, period_divides}
-use Rattle.alg_finite.proofs.Evaluation.{evaluate}
+use Rattle.alg_finite.proofs.Evaluation.{evaluate_by}
 use Rattle.alg_finite.proofs.MinimalPolynomials.{root_period, roots_are_orbit}
 use Rattle.alg_finite.proofs.RootExistence.{root_exists, degree_divides}
 use Rattle.alg_galois.proofs.Fields.{IsModulus, field_of, modulus, ops, laws, of_residue, of_residue_homomorphism, finite, finite_over_prime}
 use Rattle.alg_galois.proofs.FieldEmbeddings.{identity_homomorphism, composed, generator_element, digits_of, determined, generator_image}
 
 -- ---- one field
-module _ (p : ℕ) (h : IsCharacteristic p) (g : List ℕ) (N : IsModulus p g) where
+module _ (p : ℕ) (h : IsPrime p) (g : List ℕ) (N : IsModulus p g) where
   -- **each power of Frobenius keeps the operations**
   pub frobenius_keeps : (t : ℕ)
       → Homomorphism (ops p h g N) (ops p h g N) (frobenius (ops p h g N) p t)
@@ -55,7 +55,7 @@ module _ (p : ℕ) (h : IsCharacteristic p) (g : List ℕ) (N : IsModulus p g) w
       ∙ frobenius_multiple (laws p h g N).ring p i a r (n / i)
 
 -- ---- two fields
-module _ (p : ℕ) (h : IsCharacteristic p) (f : List ℕ) (M : IsModulus p f) (g : List ℕ)
+module _ (p : ℕ) (h : IsPrime p) (f : List ℕ) (M : IsModulus p f) (g : List ℕ)
     (N : IsModulus p g) where
   abbrev FO : Ops (Element (field_values (field_of p g)))
   FO = ops p h g N
@@ -66,22 +66,22 @@ module _ (p : ℕ) (h : IsCharacteristic p) (f : List ℕ) (M : IsModulus p f) (
   -- **the polynomial of E has a root in F where the degree of E divides that of F**
   pub field_root_exists : degree_of (field_of p g) % degree_of (field_of p f) ≡ 0
       → (v : Element (field_values (field_of p g)))
-      × (evaluate (residues p) (of_residue p h g N) (ops p h g N) (modulus p h f M) v
+      × (evaluate_by (residues p) (of_residue p h g N) (ops p h g N) (modulus p h f M) v
       ≡ (ops p h g N).zero)
   field_root_exists e =
-      root_exists (residues_propositional p) (residues_field p h) (residues_finite p h)
+      root_exists (residues_propositional p) (prime_residues_field p h) (residues_finite p h)
       (modulus p h f M) M.irreducible.not_constant M.monic M.irreducible
       (degree_of (field_of p g)) (finite_over_prime p h g N) (of_residue_homomorphism p h g N)
       (degree_of (field_of p g) / degree_of (field_of p f))
       (omega (arith, div-add-mod (degree_of (field_of p g)) (degree_of (field_of p f)), e))
 
   module _ (v : Element (field_values (field_of p g)))
-      (root : evaluate (residues p) (of_residue p h g N) (ops p h g N) (modulus p h f M) v
+      (root : evaluate_by (residues p) (of_residue p h g N) (ops p h g N) (modulus p h f M) v
       ≡ (ops p h g N).zero) where
     -- **and only there**
     pub field_degree_divides : degree_of (field_of p g) % degree_of (field_of p f) ≡ 0
     field_degree_divides =
-        degree_divides (residues_propositional p) (residues_field p h) (residues_finite p h)
+        degree_divides (residues_propositional p) (prime_residues_field p h) (residues_finite p h)
         (modulus p h f M) M.irreducible.not_constant M.monic M.irreducible
         (degree_of (field_of p g)) (finite_over_prime p h g N)
         (of_residue_homomorphism p h g N) v root
@@ -89,18 +89,18 @@ module _ (p : ℕ) (h : IsCharacteristic p) (f : List ℕ) (M : IsModulus p f) (
     -- **a root comes back after exactly as many powers of Frobenius as the degree**
     pub field_root_period : Period (ops p h g N) p v (degree_of (field_of p f))
     field_root_period = subst (λ q. Period FO q v (degree f)) (pow_one p)
-        (root_period (residues_propositional p) (residues_field p h) (residues_finite p h)
+        (root_period (residues_propositional p) (prime_residues_field p h) (residues_finite p h)
         (finite p h g N) (of_residue_homomorphism p h g N)
         (modulus p h f M) M.monic M.irreducible v root)
 
     -- **all roots are powers of Frobenius of one**
     pub field_roots_are_orbit : (w : Element (field_values (field_of p g)))
-        → evaluate (residues p) (of_residue p h g N) (ops p h g N) (modulus p h f M) w
+        → evaluate_by (residues p) (of_residue p h g N) (ops p h g N) (modulus p h f M) w
         ≡ (ops p h g N).zero
         → (t : ℕ) × (t < degree_of (field_of p f)) × (frobenius (ops p h g N) p t v ≡ w)
     field_roots_are_orbit w e =
         let r : (i : ℕ) × (i < degree f) × (frobenius (ops p h g N) (p ^ 1) i v ≡ w) =
-        roots_are_orbit (residues_propositional p) (residues_field p h) (residues_finite p h)
+        roots_are_orbit (residues_propositional p) (prime_residues_field p h) (residues_finite p h)
         (finite p h g N) (of_residue_homomorphism p h g N)
         (modulus p h f M) M.monic M.irreducible v root w e in
         (r.0, r.1, ap (λ q. frobenius FO q r.0 v) (sym (pow_one p)) ∙ r.2)
@@ -144,7 +144,7 @@ module _ (p : ℕ) (h : IsCharacteristic p) (f : List ℕ) (M : IsModulus p f) (
       → (a : Element (field_values (field_of p f))) → e a ≡ d a
   same_from_generator {e} {d} H G s a =
       determined p h f M g N H a
-      ∙ ap (value_at FO (map (of_residue p h g N) (digits_of p h f M a))) s
+      ∙ ap (evaluate FO (map (of_residue p h g N) (digits_of p h f M a))) s
       ∙ sym (determined p h f M g N G a)
 
   module _ {e : Element (field_values (field_of p f)) → Element (field_values (field_of p g))}
@@ -199,7 +199,7 @@ module _ (p : ℕ) (h : IsCharacteristic p) (f : List ℕ) (M : IsModulus p f) (
     remainders_agree s t r = powers_agree_on_root (e x) (generator_image p h f M g N H) s t (r x)
 
 -- **no fewer powers of Frobenius than the degree bring the generator back**
-module _ (p : ℕ) (h : IsCharacteristic p) (g : List ℕ) (N : IsModulus p g) where
+module _ (p : ℕ) (h : IsPrime p) (g : List ℕ) (N : IsModulus p g) where
   -- the period of the generator is the degree
   pub generator_period : Period (ops p h g N) p (generator_element p h g N)
       (degree_of (field_of p g))

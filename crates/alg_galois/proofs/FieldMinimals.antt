@@ -3,24 +3,24 @@
 -- ones, are irreducible, and divide whatever vanishes there.
 use Rattle.std.proofs.Common.{◌≡◌, ℕ, ◌^◌, List, length, map, refl, ap, sym, ◌∙◌, subst, arith}
 use Rattle.alg_model.specs.Coefficients.{Ops, Carrier, residues}
-use Rattle.alg_model.specs.Polynomials.{value_at}
+use Rattle.alg_model.specs.Polynomials.{evaluate}
 use Rattle.alg_model.specs.Factors.{IsPolynomial, IsMonic, IsIrreducible, Divides}
 use Rattle.alg_model.specs.Fields.{IsRing, IsField}
 use Rattle.alg_model.specs.Maps.{Field, IsFiniteField, field_values, constants, constant, apply, IsEmbedding}
 use Rattle.alg_model.specs.Roots.{IsMinimalPolynomial, IsMinimal, IsMinimalOver}
 use Rattle.alg_rings.specs.Laws.{IsPropositional}
-use Rattle.alg_rings.proofs.Elements.{Element, element_ops, value_injective}
+use Rattle.alg_rings.proofs.Elements.{Element, element_ops, underlying_injective}
 use Rattle.alg_rings.proofs.Homomorphisms.{Homomorphism}
-use Rattle.alg_rings.proofs.ResidueFields.{residues_field, residues_propositional}
+use Rattle.alg_rings.proofs.ResidueFields.{prime_residues_field, residues_propositional}
 use Rattle.alg_rings.proofs.Divisors.{Polynomial, polynomial_ops}
 use Rattle.alg_divisors.proofs.Euclidean
 use Rattle.alg_divisors.proofs.Euclidean.{EuclideanLaws}
-use Rattle.alg_divisors.proofs.Fields.{polynomials_euclidean}
-use Rattle.alg_divisors.proofs.Polynomials.{divides_to}
+use Rattle.alg_divisors.proofs.EuclideanPolynomials.{polynomials_euclidean}
+use Rattle.alg_divisors.proofs.PolynomialFactors.{divides_to}
 use Rattle.alg_finite.proofs.FiniteField.{FiniteField}
 use Rattle.alg_finite.proofs.FiniteValues.{residues_finite}
 use Rattle.alg_finite.proofs.Orbits.{Orbit, orbit_of}
-use Rattle.alg_finite.proofs.Evaluation.{evaluate}
+use Rattle.alg_finite.proofs.Evaluation.{evaluate_by}
 use Rattle.alg_finite.proofs.MinimalPolynomials
 use Rattle.alg_galois.proofs.Fields.{IsModulus, modulus_of, field_of, propositional, field_is, of_residue_homomorphism, finite, evaluate_value}
 use Rattle.alg_galois.proofs.FieldEmbeddings.{function_homomorphism}
@@ -46,13 +46,13 @@ module _ {X Y : Type 0} {c : Carrier X} {d : Carrier Y} (P : IsPropositional c) 
   own = MinimalPolynomials.minimal P Fc K F H a (orbit_of H K F a)
 
   -- vanishing, as elements and as lists
-  zero_to : (f : Polynomial c) → evaluate c h (element_ops R) f a ≡ (element_ops R).zero
-      → value_at d.ops (map image f.0) a.0 ≡ d.ops.zero
+  zero_to : (f : Polynomial c) → evaluate_by c h (element_ops R) f a ≡ (element_ops R).zero
+      → evaluate d.ops (map image f.0) a.0 ≡ d.ops.zero
   zero_to f e = sym (evaluate_value c R h image same f a) ∙ ap (λ y. y.0) e
 
-  zero_from : (f : Polynomial c) → value_at d.ops (map image f.0) a.0 ≡ d.ops.zero
-      → evaluate c h (element_ops R) f a ≡ (element_ops R).zero
-  zero_from f e = value_injective Q _ _ (evaluate_value c R h image same f a ∙ e)
+  zero_from : (f : Polynomial c) → evaluate d.ops (map image f.0) a.0 ≡ d.ops.zero
+      → evaluate_by c h (element_ops R) f a ≡ (element_ops R).zero
+  zero_from f e = underlying_injective Q _ _ (evaluate_value c R h image same f a ∙ e)
 
   -- **a minimal polynomial exists**
   pub minimal_exists : (g : List X) × IsMinimalPolynomial c d image a.0 g
@@ -91,14 +91,14 @@ module _ {X Y : Type 0} {c : Carrier X} {d : Carrier Y} (P : IsPropositional c) 
 
     -- **it divides what vanishes at a**
     pub minimal_divides : (f : List X) → IsPolynomial c f
-        → value_at d.ops (map image f) a.0 ≡ d.ops.zero → Divides c g f
+        → evaluate d.ops (map image f) a.0 ≡ d.ops.zero → Divides c g f
     minimal_divides f k e = subst (λ t. Divides c t f) (is_own g M)
         (divides_to P Fc own (f, k)
         (MinimalPolynomials.minimal_divides P Fc K F H a O (f, k) (zero_from (f, k) e)))
 
     -- **a monic irreducible polynomial that vanishes at a is it**
     pub irreducible_is_minimal : (f : List X) → IsMonic c f → IsIrreducible c f
-        → value_at d.ops (map image f) a.0 ≡ d.ops.zero → g ≡ f
+        → evaluate d.ops (map image f) a.0 ≡ d.ops.zero → g ≡ f
     irreducible_is_minimal f l i e = sym (is_own g M)
         ∙ ap (λ y. y.0) (MinimalPolynomials.irreducible_is_minimal P Fc K F H a O
         (f, i.polynomial) l i (zero_from (f, i.polynomial) e))
@@ -114,7 +114,7 @@ module _ (F : Field) (W : IsFiniteField F) (a : List ℕ) (va : (field_values F)
   -- a value has a minimal polynomial over the prime field
   pub minimal_over_prime_exists : (g : List ℕ) × IsMinimal F a g
   minimal_over_prime_exists =
-      minimal_exists (residues_propositional p) (residues_field p W.characteristic)
+      minimal_exists (residues_propositional p) (prime_residues_field p W.characteristic)
       (propositional p W.characteristic F.polynomial N)
       (field_is p W.characteristic F.polynomial N).ring (residues_finite p W.characteristic)
       (finite p W.characteristic F.polynomial N)
@@ -123,7 +123,7 @@ module _ (F : Field) (W : IsFiniteField F) (a : List ℕ) (va : (field_values F)
   -- one alone
   pub minimal_over_prime_unique : (g f : List ℕ) → IsMinimal F a g → IsMinimal F a f → g ≡ f
   minimal_over_prime_unique g f M =
-      minimal_unique (residues_propositional p) (residues_field p W.characteristic)
+      minimal_unique (residues_propositional p) (prime_residues_field p W.characteristic)
       (propositional p W.characteristic F.polynomial N)
       (field_is p W.characteristic F.polynomial N).ring (residues_finite p W.characteristic)
       (finite p W.characteristic F.polynomial N)
@@ -134,7 +134,7 @@ module _ (F : Field) (W : IsFiniteField F) (a : List ℕ) (va : (field_values F)
   pub minimal_over_prime_irreducible : (g : List ℕ) → IsMinimal F a g
       → IsIrreducible (residues F.characteristic) g
   minimal_over_prime_irreducible =
-      minimal_irreducible (residues_propositional p) (residues_field p W.characteristic)
+      minimal_irreducible (residues_propositional p) (prime_residues_field p W.characteristic)
       (propositional p W.characteristic F.polynomial N)
       (field_is p W.characteristic F.polynomial N).ring (residues_finite p W.characteristic)
       (finite p W.characteristic F.polynomial N)
@@ -143,10 +143,10 @@ module _ (F : Field) (W : IsFiniteField F) (a : List ℕ) (va : (field_values F)
   -- and divides what vanishes there
   pub minimal_over_prime_divides : (g : List ℕ) → IsMinimal F a g → (f : List ℕ)
       → IsPolynomial (residues F.characteristic) f
-      → value_at (field_values F).ops (constants F f) a ≡ (field_values F).ops.zero
+      → evaluate (field_values F).ops (constants F f) a ≡ (field_values F).ops.zero
       → Divides (residues F.characteristic) g f
   minimal_over_prime_divides =
-      minimal_divides (residues_propositional p) (residues_field p W.characteristic)
+      minimal_divides (residues_propositional p) (prime_residues_field p W.characteristic)
       (propositional p W.characteristic F.polynomial N)
       (field_is p W.characteristic F.polynomial N).ring (residues_finite p W.characteristic)
       (finite p W.characteristic F.polynomial N)
@@ -190,13 +190,13 @@ module _ (E F : Field) (V : IsFiniteField E) (W : IsFiniteField F) (m : List (Li
   -- and divides what vanishes there
   pub minimal_over_divides : (g : List (List ℕ)) → IsMinimalOver E F m a g → (f : List (List ℕ))
       → IsPolynomial (field_values E) f
-      → value_at (field_values F).ops (map (apply F m) f) a ≡ (field_values F).ops.zero
+      → evaluate (field_values F).ops (map (apply F m) f) a ≡ (field_values F).ops.zero
       → Divides (field_values E) g f
   minimal_over_divides = of_two_fields
       (λ E F. IsEmbedding E F m → (field_values F).Valid a → (g : List (List ℕ))
       → IsMinimalOver E F m a g
       → (f : List (List ℕ)) → IsPolynomial (field_values E) f
-      → value_at (field_values F).ops (map (apply F m) f) a ≡ (field_values F).ops.zero
+      → evaluate (field_values F).ops (map (apply F m) f) a ≡ (field_values F).ops.zero
       → Divides (field_values E) g f)
       (λ p h f M g N D va. minimal_divides (propositional p h f M) (field_is p h f M)
       (propositional p h g N) (field_is p h g N).ring (finite p h f M) (finite p h g N)

@@ -10,7 +10,7 @@ use Rattle.std.proofs.lemmas.Nat.Gcd.{dvd_of_mod-eq-zero, mod-eq-zero_of_dvd}
 use Prim.Native.Nat.{◌∣◌}
 use Rattle.alg_model.specs.Coefficients.{Ops, power, residues}
 use Rattle.alg_model.specs.Maps.{Field, IsFiniteField, field_values, degree_of, generator, constant}
-use Rattle.alg_rings.proofs.Elements.{Element, value_injective}
+use Rattle.alg_rings.proofs.Elements.{Element, underlying_injective}
 use Rattle.alg_rings.proofs.Homomorphisms.{power-map}
 use Rattle.alg_finite.proofs.Enumerations.{members_distinct}
 use Rattle.alg_finite.proofs.FiniteField.{FiniteField, frobenius, frobenius_multiple, pow_one, above_one}
@@ -52,7 +52,7 @@ module _ (F : Field) (W : IsFiniteField F) where
         subst (field_values F).Valid (sym (at i O.zero.0 s)) (K.members.at i).1),
     (λ i j d l k e. let s : j < n = omega (arith, long) in
         members_distinct K.members i j l s
-        (value_injective (propositional p W.characteristic F.polynomial N) _ _
+        (underlying_injective (propositional p W.characteristic F.polynomial N) _ _
         (sym (at i d (omega arith)) ∙ e ∙ at j d s))),
     (λ a va. (
       K.members.index (a, va),
@@ -85,7 +85,7 @@ module _ (F : Field) (W : IsFiniteField F) where
         (residues_finite p W.characteristic) (laws p W.characteristic F.polynomial N)
         (above_one (residues_finite p W.characteristic)) (a, va)
         (ap (power O (a, va)) (pow_one p)
-        ∙ value_injective (propositional p W.characteristic F.polynomial N) _ _
+        ∙ underlying_injective (propositional p W.characteristic F.polynomial N) _ _
         (power_value p W.characteristic F.polynomial N (a, va) p ∙ e)) in
         (b.0.0, b.0.1, ap (λ y. y.0) b.1)),
     (λ t. let b : Element (residues p) = (t.0, t.1) in
@@ -112,7 +112,7 @@ module _ (F : Field) (W : IsFiniteField F) where
         (period_divides K 1 x (degree_of F)
         (subst (λ q. Period O q x (degree_of F)) (sym (pow_one p)) D) t
         (ap (λ q. frobenius O q t x) (pow_one p)
-        ∙ value_injective (propositional p W.characteristic F.polynomial N) _ _
+        ∙ underlying_injective (propositional p W.characteristic F.polynomial N) _ _
         (power_value p W.characteristic F.polynomial N x (p ^ t) ∙ e)))),
     (λ k. sym (power_value p W.characteristic F.polynomial N x (p ^ t))
         ∙ ap (λ y. y.0) (ap (λ i. frobenius O p i x) (quotient t k)

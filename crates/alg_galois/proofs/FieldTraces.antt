@@ -1,10 +1,10 @@
 -- Trace and norm of the fields of the model, over the prime field and over a subfield.
 use Rattle.std.proofs.Common.{◌≡◌, ◌≢◌, ℕ, zero, suc, ◌+◌, ◌*◌, ◌^◌, ◌<◌, List, ap, ap₂, sym, ◌∙◌, subst, arith, zero-mul}
 use Rattle.std.proofs.Math.Nat.{mul-lt-mul_of_pos_left}
-use Rattle.alg_model.specs.Coefficients.{Ops, power, residues, IsCharacteristic}
+use Rattle.alg_model.specs.Coefficients.{Ops, power, residues, IsPrime}
 use Rattle.alg_model.specs.Conjugates.{conjugates, sum_all, product_all, trace, norm}
 use Rattle.alg_model.specs.Maps.{Field, IsFiniteField, field_values, degree_of, generator, constant}
-use Rattle.alg_rings.proofs.Elements.{Element, value_injective, value_homomorphism}
+use Rattle.alg_rings.proofs.Elements.{Element, underlying_injective, underlying_homomorphism}
 use Rattle.alg_finite.proofs.Enumerations.{Distinct}
 use Rattle.alg_finite.proofs.FiniteField.{frobenius, frobenius_of_power, pow_one}
 use Rattle.alg_finite.proofs.FiniteValues.{residues_finite}
@@ -15,7 +15,7 @@ use Rattle.alg_galois.proofs.Fields.{IsModulus, modulus_of, field_of, propositio
 use Rattle.alg_galois.proofs.FieldEmbeddings.{generator_element}
 use Rattle.alg_galois.proofs.FieldFrobenius.{generator_period}
 
-module _ (p : ℕ) (h : IsCharacteristic p) (g : List ℕ) (N : IsModulus p g) where
+module _ (p : ℕ) (h : IsPrime p) (g : List ℕ) (N : IsModulus p g) where
   abbrev FO : Ops (Element (field_values (field_of p g)))
   FO = ops p h g N
 
@@ -31,7 +31,7 @@ module _ (p : ℕ) (h : IsCharacteristic p) (g : List ℕ) (N : IsModulus p g) w
       ≡ sum_all (field_values (field_of p g)).ops
       (conjugates (field_values (field_of p g)).ops q e a.0)
   sum_value q e a =
-      total-map (value_homomorphism (field_is p h g N).ring) e (λ i. frobenius FO q i a)
+      total-map (underlying_homomorphism (field_is p h g N).ring) e (λ i. frobenius FO q i a)
       ∙ sums_same (field_values (field_of p g)).ops e _ _
       (λ i. power_value p h g N a (q ^ i)
       ∙ ap (λ j. power (field_values (field_of p g)).ops a.0 (q ^ j)) (sym (plus_nothing i)))
@@ -44,7 +44,7 @@ module _ (p : ℕ) (h : IsCharacteristic p) (g : List ℕ) (N : IsModulus p g) w
       ≡ product_all (field_values (field_of p g)).ops
       (conjugates (field_values (field_of p g)).ops q e a.0)
   product_value q e a =
-      product-map (value_homomorphism (field_is p h g N).ring) e (λ i. frobenius FO q i a)
+      product-map (underlying_homomorphism (field_is p h g N).ring) e (λ i. frobenius FO q i a)
       ∙ product_same (field_values (field_of p g)).ops e _ _
       (λ i. power_value p h g N a (q ^ i)
       ∙ ap (λ j. power (field_values (field_of p g)).ops a.0 (q ^ j)) (sym (plus_nothing i)))
@@ -173,7 +173,7 @@ module _ (F : Field) (W : IsFiniteField F) where
       (λ e. ne (ap (λ y. y.0) e)) in (
         r.0,
         r.1,
-        λ s. r.2 (value_injective (propositional p W.characteristic F.polynomial N₁) _ _
+        λ s. r.2 (underlying_injective (propositional p W.characteristic F.polynomial N₁) _ _
             (as_list r.0 a va ∙ s ∙ sym (as_list r.0 b vb))),
       )
     where
@@ -201,6 +201,6 @@ module _ (F : Field) (W : IsFiniteField F) where
       (finite p W.characteristic F.polynomial N₁).positive in (
         r.0.0,
         r.0.1,
-        λ s. r.1 (value_injective
+        λ s. r.1 (underlying_injective
             (propositional p W.characteristic F.polynomial N₁) _ _ (trace_is r.0 ∙ s)),
       )

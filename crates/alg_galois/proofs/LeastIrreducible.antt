@@ -5,30 +5,30 @@ use Rattle.std.specs.Ordering.{ordering_reverse}
 use Rattle.std.proofs.lemmas.Cmp.{nat_cmp_total, on_total}
 use Rattle.std.proofs.lemmas.List.{length-append}
 use Rattle.std.proofs.lemmas.List.Elements.{All-nil, All-cons, All-head, All-tail, All-append}
-use Rattle.alg_model.specs.Coefficients.{Ops, residues, mod_ops, IsCharacteristic}
+use Rattle.alg_model.specs.Coefficients.{Ops, residues, mod_ops, IsPrime}
 use Rattle.alg_model.specs.Polynomials.{leading}
 use Rattle.alg_model.specs.Factors.{IsPolynomial, IsMonic, IsIrreducible, order_by}
 use Rattle.alg_model.specs.Values.{degree}
 use Rattle.alg_model.specs.Maps.{Field, IsFiniteField, field_values, degree_of}
 use Rattle.alg_model.specs.Roots.{IsLeastIrreducible}
-use Rattle.alg_rings.proofs.Carriers.{trimmed_from_leading}
+use Rattle.alg_rings.proofs.CarrierPolynomials.{trimmed_from_leading}
 use Rattle.alg_rings.proofs.Divisors.{Polynomial}
 use Rattle.alg_rings.proofs.Elements.{Element}
-use Rattle.alg_rings.proofs.ResidueFields.{residues_field, residues_propositional}
+use Rattle.alg_rings.proofs.ResidueFields.{prime_residues_field, residues_propositional}
 use Rattle.alg_divisors.proofs.Existence.{proper_factor_or_none}
-use Rattle.alg_divisors.proofs.Order.{order_by_total, order_by_same, nat_cmp_same}
+use Rattle.alg_rings.proofs.PolynomialOrder.{order_by_total, order_by_same, nat_cmp_same}
 use Rattle.alg_finite.proofs.LeastMembers.{least_member}
 use Rattle.alg_finite.proofs.FiniteValues.{residues_finite}
 use Rattle.alg_finite.proofs.IrreducibleExistence.{irreducible_exists, finite_carrier}
 use Rattle.alg_galois.proofs.Fields.{IsModulus, field_of, finite}
 
 -- **a finite field of each degree exists**
-pub field_exists : (p d : ℕ) → IsCharacteristic p → 0 < d
+pub field_exists : (p d : ℕ) → IsPrime p → 0 < d
     → (K : Field) × IsFiniteField K × (K.characteristic ≡ p) × (degree_of K ≡ d)
 field_exists p d h l =
     let f : (f : Polynomial (residues p)) × IsMonic (residues p) f.0
     × IsIrreducible (residues p) f.0 × (degree f.0 ≡ d) =
-    irreducible_exists (residues_propositional p) (residues_field p h) (residues_finite p h) d l in
+    irreducible_exists (residues_propositional p) (prime_residues_field p h) (residues_finite p h) d l in
     (field_of p f.0.0, record { characteristic = h; monic = f.1; irreducible = f.2 }, refl, f.3)
 
 -- ---- monic polynomials as the lists below their last coefficient
@@ -46,7 +46,7 @@ without_last o (x ∷ y ∷ g) l = let r : (xs : List _) × (y ∷ g ≡ xs ++ l
     (x ∷ r.0, ap (λ t. x ∷ t) r.1)
 
 -- ---- the least
-module _ (p : ℕ) (h : IsCharacteristic p) (f : List ℕ) (M : IsModulus p f) where
+module _ (p : ℕ) (h : IsPrime p) (f : List ℕ) (M : IsModulus p f) where
   abbrev Lower : Type 0
   Lower = Element (field_values (field_of p f))
 
@@ -56,14 +56,14 @@ module _ (p : ℕ) (h : IsCharacteristic p) (f : List ℕ) (M : IsModulus p f) w
 
   with_one_valid : (a : Lower) → All (λ x. x < p) (with_one a)
   with_one_valid a = All-append (λ x. x < p) a.0 (1 ∷ []) a.1.0
-      (All-cons (λ x. x < p) 1 [] (residues_field p h).ring.one_valid (All-nil (λ x. x < p)))
+      (All-cons (λ x. x < p) 1 [] (prime_residues_field p h).ring.one_valid (All-nil (λ x. x < p)))
 
   with_one_polynomial : (a : Lower) → IsPolynomial (residues p) (with_one a)
   with_one_polynomial a = (
     with_one_valid a,
-    trimmed_from_leading (residues_propositional p) (residues_field p h).ring (with_one a)
+    trimmed_from_leading (residues_propositional p) (prime_residues_field p h).ring (with_one a)
         (with_one_valid a)
-        (λ z. (residues_field p h).one_not_zero (sym (leading_last (mod_ops p) a.0 1) ∙ z)),
+        (λ z. (prime_residues_field p h).one_not_zero (sym (leading_last (mod_ops p) a.0 1) ∙ z)),
   )
 
   length_with_one : (a : Lower) → length (with_one a) ≡ length f
@@ -80,8 +80,8 @@ module _ (p : ℕ) (h : IsCharacteristic p) (f : List ℕ) (M : IsModulus p f) w
             omega (arith, length_with_one a);
         no_factor = none;
       }))
-      (proper_factor_or_none (residues_propositional p) (residues_field p h)
-      (finite_carrier (residues_propositional p) (residues_field p h) (residues_finite p h))
+      (proper_factor_or_none (residues_propositional p) (prime_residues_field p h)
+      (finite_carrier (residues_propositional p) (prime_residues_field p h) (residues_finite p h))
       (with_one a) (with_one_polynomial a))
 
   -- each monic polynomial of this degree has lower coefficients
@@ -133,12 +133,12 @@ module _ (p : ℕ) (h : IsCharacteristic p) (f : List ℕ) (M : IsModulus p f) w
       )
 
 -- **of each degree there is a least irreducible polynomial**
-pub least_irreducible_exists : (p n : ℕ) → IsCharacteristic p → 0 < n
+pub least_irreducible_exists : (p n : ℕ) → IsPrime p → 0 < n
     → (f : List ℕ) × IsLeastIrreducible p n f
 least_irreducible_exists p n h l =
     let f : (f : Polynomial (residues p)) × IsMonic (residues p) f.0
     × IsIrreducible (residues p) f.0 × (degree f.0 ≡ n) =
-    irreducible_exists (residues_propositional p) (residues_field p h) (residues_finite p h) n l in
+    irreducible_exists (residues_propositional p) (prime_residues_field p h) (residues_finite p h) n l in
     subst (λ d. (f : List ℕ) × IsLeastIrreducible p d f) f.3
     (least_of_length p h f.0.0 (record { monic = f.1; irreducible = f.2 }))
 

@@ -7,7 +7,7 @@ use Prim.Native.Nat.{◌∣◌}
 use Rattle.alg_model.specs.Coefficients.{power}
 use Rattle.alg_model.specs.Maps.{Field, IsFiniteField, field_values, degree_of, generator, constants, powers, apply, comp, IsEmbedding, IsMeet}
 use Rattle.alg_model.specs.Roots.{IsRoot}
-use Rattle.alg_rings.proofs.Elements.{value_injective}
+use Rattle.alg_rings.proofs.Elements.{underlying_injective}
 use Rattle.alg_finite.proofs.FiniteField.{frobenius, frobenius_none}
 use Rattle.alg_galois.proofs.Fields.{modulus_of, propositional, power_value, ops, laws}
 use Rattle.alg_galois.proofs.FieldFrobenius.{frobenius_returns_gcd, frobenius_returns_multiple}
@@ -20,7 +20,7 @@ module _ (K : Field) (W : IsFiniteField K) (w : List ℕ) (vw : (field_values K)
   element_fixed : (n : ℕ) → power (field_values K).ops w (K.characteristic ^ n) ≡ w
       → frobenius (ops K.characteristic W.characteristic K.polynomial (modulus_of K W))
       K.characteristic n (w, vw) ≡ (w, vw)
-  element_fixed n e = value_injective
+  element_fixed n e = underlying_injective
       (propositional K.characteristic W.characteristic K.polynomial (modulus_of K W)) _ _
       (power_value K.characteristic W.characteristic K.polynomial (modulus_of K W) (w, vw)
       (K.characteristic ^ n) ∙ e)

@@ -3,10 +3,10 @@ use Rattle.std.proofs.Common.{◌≡◌, ◌≢◌, ℕ, zero, suc, ◌*◌, ◌
 use Rattle.std.proofs.Math.Nat.{div-add-mod, mul_assoc, mul-zero, mul-div_cancel_left}
 use Rattle.std.proofs.lemmas.Nat.Gcd.{mod-eq-zero_of_dvd}
 use Prim.Native.Nat.{◌∣◌}
-use Rattle.alg_model.specs.Coefficients.{Ops, power, IsCharacteristic}
+use Rattle.alg_model.specs.Coefficients.{Ops, power, IsPrime}
 use Rattle.alg_model.specs.Conjugates.{conjugates, sum_all, product_all, trace, norm, trace_over, norm_over}
 use Rattle.alg_model.specs.Maps.{Field, IsFiniteField, field_values, degree_of, generator, apply, IsEmbedding}
-use Rattle.alg_rings.proofs.Elements.{Element, value_injective}
+use Rattle.alg_rings.proofs.Elements.{Element, underlying_injective}
 use Rattle.alg_rings.proofs.Homomorphisms.{Homomorphism}
 use Rattle.alg_finite.proofs.FiniteField.{pow_one}
 use Rattle.alg_finite.proofs.Traces.{trace_of, norm_of}
@@ -21,7 +21,7 @@ use Rattle.alg_galois.proofs.EmbeddingRoots.{embedding_degree_divides}
 pub quotient_times : (d n : ℕ) → d ∣ n → n ≡ d * (n / d)
 quotient_times d n k = omega (arith, div-add-mod n d, mod-eq-zero_of_dvd d k)
 
-module _ (p : ℕ) (h : IsCharacteristic p) (f : List ℕ) (M : IsModulus p f) (g : List ℕ)
+module _ (p : ℕ) (h : IsPrime p) (f : List ℕ) (M : IsModulus p f) (g : List ℕ)
     (N : IsModulus p g) (m : List (List ℕ))
     (D : IsEmbedding (field_of p f) (field_of p g) m) where
   abbrev E : Field
@@ -119,7 +119,7 @@ module _ (p : ℕ) (h : IsCharacteristic p) (f : List ℕ) (M : IsModulus p f) (
       positive (a, va) (b, vb) (λ s. ne (ap (λ y. y.0) s)) in (
         r.0,
         r.1,
-        λ s. r.2 (value_injective (propositional p h g N) _ _
+        λ s. r.2 (underlying_injective (propositional p h g N) _ _
             (as_list r.0 a va ∙ s ∙ sym (as_list r.0 b vb))),
       )
     where
@@ -139,7 +139,7 @@ module _ (p : ℕ) (h : IsCharacteristic p) (f : List ℕ) (M : IsModulus p f) (
       RelativeTraces.trace_not_zero H (finite p h f M) (finite p h g N) e size
       (generator_element p h g N)
       (generator_distinct_over p h g N (degree_of E) e size) positive in
-      (r.0.0, r.0.1, λ s. r.1 (value_injective (propositional p h g N) _ _ (trace_is r.0 ∙ s)))
+      (r.0.0, r.0.1, λ s. r.1 (underlying_injective (propositional p h g N) _ _ (trace_is r.0 ∙ s)))
 
   -- over E and then further, to a field of degree r below E, and at once
   sums_of_sums : (r d : ℕ) → degree_of E ≡ r * d → (a b : List ℕ) → (field_values F).Valid a
@@ -149,7 +149,7 @@ module _ (p : ℕ) (h : IsCharacteristic p) (f : List ℕ) (M : IsModulus p f) (
   sums_of_sums r d s a b va vb t =
       ap (apply F m) (sym (sum_value p h f M (p ^ r) d (b, vb)))
       ∙ ap (λ y. y.0) (RelativeTraces.trace_of_trace H (finite p h g N) r d e (a, va) (b, vb)
-      (value_injective (propositional p h g N) _ _
+      (underlying_injective (propositional p h g N) _ _
       (t ∙ sym (trace_is (a, va)) ∙ ap (λ i. (trace_of FO (p ^ i) e (a, va)).0) s)))
       ∙ sum_value p h g N (p ^ r) (d * e) (a, va)
 
@@ -160,7 +160,7 @@ module _ (p : ℕ) (h : IsCharacteristic p) (f : List ℕ) (M : IsModulus p f) (
   products_of_products r d s a b va vb t =
       ap (apply F m) (sym (product_value p h f M (p ^ r) d (b, vb)))
       ∙ ap (λ y. y.0) (RelativeTraces.norm_of_norm H (finite p h g N) r d e (a, va) (b, vb)
-      (value_injective (propositional p h g N) _ _
+      (underlying_injective (propositional p h g N) _ _
       (t ∙ sym (norm_is (a, va)) ∙ ap (λ i. (norm_of FO (p ^ i) e (a, va)).0) s)))
       ∙ product_value p h g N (p ^ r) (d * e) (a, va)
 

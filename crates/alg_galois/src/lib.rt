@@ -1,9 +1,15 @@
-//! Galois theory of finite fields, as laws of the fields that a characteristic and an irreducible polynomial give: their sizes,
+//! Galois theory of finite fields, as laws of the fields that a prime and an irreducible polynomial give: their sizes,
 //! Frobenius, roots, embeddings, subfields, traces, and irreducible and minimal polynomials. Each function does nothing: its
 //! contract is the law.
 #![tactic(auto)]
 
-ghost use Rattle.alg_galois.specs.Laws.{ValuesFormField, HasItsSize, ValueIsItsPower, FrobeniusHasOrder, FrobeniusFixesConstants, RootExists, RootNeedsDegree, RootsAreOneOrbit, OrbitIsLong, RootGivesEmbedding, EmbeddingIsPowers, EmbeddingIsInjective, EmbeddingsDiffer, PowerIsDetermined, SubfieldExists, SubfieldIsFixed, MeetIsGcd, TraceIsConstant, TraceParts, TraceOverParts, TraceIsTransitive, NormIsTransitive, IrreducibleExists, LeastIsUnique, MinimalExists, MinimalIsUnique, MinimalIsIrreducible, MinimalDivides};
+ghost use Rattle.alg_galois.specs.Theorems.{ValuesFormField, HasItsSize, ValueIsItsPower, FrobeniusHasOrder};
+ghost use Rattle.alg_galois.specs.Theorems.{FrobeniusFixesConstants, RootExists, RootNeedsDegree, RootsAreOneOrbit};
+ghost use Rattle.alg_galois.specs.Theorems.{OrbitIsLong, RootGivesEmbedding, EmbeddingIsPowers, EmbeddingIsInjective};
+ghost use Rattle.alg_galois.specs.Theorems.{EmbeddingsDiffer, PowerIsDetermined, SubfieldExists, SubfieldIsFixed};
+ghost use Rattle.alg_galois.specs.Theorems.{MeetIsGcd, TraceIsConstant, TraceParts, TraceOverParts};
+ghost use Rattle.alg_galois.specs.Theorems.{TraceIsTransitive, NormIsTransitive, IrreducibleExists, LeastIsUnique};
+ghost use Rattle.alg_galois.specs.Theorems.{MinimalExists, MinimalIsUnique, MinimalIsIrreducible, MinimalDivides};
 
 /// The values of a finite field of characteristic p and degree n form a field with p^n elements, each its own power p^n.
 pub fn residue_field_is_finite()

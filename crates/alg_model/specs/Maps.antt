@@ -1,6 +1,6 @@
 -- Finite fields, and maps between them as the images of 1, x, x^2, ..
 --     Field                        a characteristic and a polynomial over its residues
---     IsFiniteField K              a characteristic of the table, and a monic irreducible
+--     IsFiniteField K              a prime, and a monic irreducible
 -- polynomial
 --     field_values K               the values of K: residues modulo its polynomial
 --     degree_of K, generator K     the degree of its polynomial; the class of x
@@ -15,9 +15,9 @@
 -- value of L
 use Rattle.std.specs.Prelude.{◌≡◌, ℕ, ◌^◌, List, [], ◌∷◌, length, map, All}
 use Rattle.std.specs.List.{range_with_len}
-use Rattle.alg_model.specs.Coefficients.{Carrier, power, mod_ops, residues, IsCharacteristic}
+use Rattle.alg_model.specs.Coefficients.{Carrier, power, mod_ops, residues, IsPrime}
 use Rattle.alg_model.specs.Factors.{IsMonic, IsIrreducible}
-use Rattle.alg_model.specs.Values.{degree, padded, reduced, values}
+use Rattle.alg_model.specs.Values.{degree, padded, remainder, values}
 use Rattle.alg_model.specs.Matrices.{Matrix, matrix_apply, identity_matrix}
 
 pub record Field : Type 0 where
@@ -25,7 +25,7 @@ pub record Field : Type 0 where
   pub polynomial : List ℕ
 
 pub record IsFiniteField (K : Field) : Type 0 where
-  pub characteristic : IsCharacteristic K.characteristic
+  pub characteristic : IsPrime K.characteristic
   pub monic : IsMonic (residues K.characteristic) K.polynomial
   pub irreducible : IsIrreducible (residues K.characteristic) K.polynomial
 
@@ -36,7 +36,7 @@ abbrev pub degree_of : Field → ℕ
 degree_of K = degree K.polynomial
 
 abbrev pub generator : Field → List ℕ
-generator K = reduced (mod_ops K.characteristic) K.polynomial (0 ∷ 1 ∷ [])
+generator K = remainder (mod_ops K.characteristic) K.polynomial (0 ∷ 1 ∷ [])
 
 abbrev pub constant : Field → ℕ → List ℕ
 constant K c = padded (mod_ops K.characteristic) (degree_of K) (c ∷ [])

@@ -11,14 +11,14 @@ use Rattle.std.specs.Prelude.{◌≡◌, ℕ, ◌≤◌, List, length, map}
 use Rattle.std.specs.Ordering.{nat_cmp}
 use Rattle.std.specs.declared.cmp.Ordering.TheVariants.{Less}
 use Rattle.alg_model.specs.Coefficients.{Carrier, residues}
-use Rattle.alg_model.specs.Polynomials.{value_at}
+use Rattle.alg_model.specs.Polynomials.{evaluate}
 use Rattle.alg_model.specs.Factors.{IsPolynomial, IsMonic, IsIrreducible, order_by}
 use Rattle.alg_model.specs.Values.{degree}
 use Rattle.alg_model.specs.Maps.{Field, field_values, constant, apply}
 
 abbrev pub IsRoot : Field → List (List ℕ) → List ℕ → Type 0
 IsRoot F g v = (field_values F).Valid v
-    × (value_at (field_values F).ops g v ≡ (field_values F).ops.zero)
+    × (evaluate (field_values F).ops g v ≡ (field_values F).ops.zero)
 
 -- values have one length, so that the highest place at which they differ decides
 abbrev pub IsBefore : List ℕ → List ℕ → Type 0
@@ -40,9 +40,9 @@ pub record IsMinimalPolynomial {A B : Type 0} (c : Carrier A) (d : Carrier B) (i
     (a : B) (g : List A) : Type 0 where
   pub polynomial : IsPolynomial c g
   pub monic : IsMonic c g
-  pub vanishes : value_at d.ops (map image g) a ≡ d.ops.zero
+  pub vanishes : evaluate d.ops (map image g) a ≡ d.ops.zero
   pub least : (h : List A) → IsPolynomial c h → IsMonic c h
-      → value_at d.ops (map image h) a ≡ d.ops.zero → length g ≤ length h
+      → evaluate d.ops (map image h) a ≡ d.ops.zero → length g ≤ length h
 
 abbrev pub IsMinimal : Field → List ℕ → List ℕ → Type 0
 IsMinimal F a g = IsMinimalPolynomial (residues F.characteristic) (field_values F) (constant F) a g

@@ -62,14 +62,13 @@ inversion_step p a i (suc s) above below e =
     ∙ mul-add-mod_self_right s p r
     ∙ mod-eq_of_lt (omega arith)
 
-
 inverse_from : (p a : ℕ) → IsPrime p → (n x i : ℕ) → x ≤ n → 0 < x → x < p → (a * i) % p ≡ x → (u : ℕ) × ((a * u) % p ≡ 1)
 inverse_from p a prime zero x i fuel above below e = absurd (omega arith)
 inverse_from p a prime (suc n) x i fuel above below e = ⊎_elim
     (λ one. (i, e ∙ one))
     (λ other. let not_zero : p % x ≢ 0 = prime_not_divided p x prime (omega arith) below in
-        let less : p % x < x = mod_below p x above in
-        inverse_from p a prime n (p % x) ((i * (p - p / x)) % p) (omega arith) (omega arith) (omega arith) (inversion_step p a i x above below e))
+    let less : p % x < x = mod_below p x above in
+    inverse_from p a prime n (p % x) ((i * (p - p / x)) % p) (omega arith) (omega arith) (omega arith) (inversion_step p a i x above below e))
     (cases_eq x 1)
 
 -- each number from 1 to p - 1 has an inverse modulo p

@@ -18,9 +18,9 @@ mod sums;
 #[cfg(test)]
 mod tests;
 
-pub use primes::{CHARACTERISTICS, Prime};
 pub use divisors::Bezout;
 pub use polynomials::Poly;
+pub use primes::{CHARACTERISTICS, Prime};
 
 /// The greatest degree of a field.
 pub const MAX_DEGREE: usize = 24;

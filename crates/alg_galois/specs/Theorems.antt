@@ -1,11 +1,10 @@
--- The laws of finite fields that this crate proves, as statements on the fields of the model: F, E
--- are fields, p is their
+-- The laws of finite fields that this crate proves, as statements on the fields of the model: F, E are fields, p is their
 -- characteristic, n is the degree of F, x its generator.
 use Rattle.std.specs.Prelude.{◌≡◌, ◌≢◌, ◌↔◌, ℕ, ◌/◌, ◌%◌, ◌^◌, ◌<◌, List, length, map, All, AllPairs, Contains}
 use Rattle.std.specs.Int.{IsGcd}
 use Prim.Native.Nat.{◌∣◌}
-use Rattle.alg_model.specs.Coefficients.{power, IsCharacteristic}
-use Rattle.alg_model.specs.Polynomials.{value_at}
+use Rattle.alg_model.specs.Coefficients.{power, IsPrime}
+use Rattle.alg_model.specs.Polynomials.{evaluate}
 use Rattle.alg_model.specs.Factors.{IsPolynomial, IsIrreducible, Divides}
 use Rattle.alg_model.specs.Fields.{IsField}
 use Rattle.alg_model.specs.Maps.{Field, IsFiniteField, field_values, degree_of, generator, constant, constants, apply, comp, powers, frobenius_map, IsEmbedding, IsMeet}
@@ -173,7 +172,7 @@ NormIsTransitive = (E F : Field) → IsFiniteField E → IsFiniteField F → (m 
 -- ---- irreducible polynomials
 -- there is a least irreducible polynomial of each degree above 0
 abbrev pub IrreducibleExists : Type 0
-IrreducibleExists = (p d : ℕ) → IsCharacteristic p → 0 < d → (f : List ℕ) × IsLeastIrreducible p d f
+IrreducibleExists = (p d : ℕ) → IsPrime p → 0 < d → (f : List ℕ) × IsLeastIrreducible p d f
 
 -- and one alone
 abbrev pub LeastIsUnique : Type 0
@@ -207,5 +206,5 @@ MinimalDivides = (E F : Field) → IsFiniteField E → IsFiniteField F → (m : 
     → IsEmbedding E F m
     → (a : List ℕ) → (field_values F).Valid a → (g : List (List ℕ)) → IsMinimalOver E F m a g
     → (f : List (List ℕ)) → IsPolynomial (field_values E) f
-    → value_at (field_values F).ops (map (apply F m) f) a ≡ (field_values F).ops.zero
+    → evaluate (field_values F).ops (map (apply F m) f) a ≡ (field_values F).ops.zero
     → Divides (field_values E) g f
