@@ -4,8 +4,8 @@
 use Rattle.std.proofs.Common.{◌≡◌, ◌≢◌, ◌⊎◌, ⊎_elim, inl, inr, ℕ, zero, suc, ◌+◌, ◌<◌, ◌≤◌, sym, refl, ap, ap₂, ◌∙◌, subst, arith}
 use Rattle.alg_model.specs.Coefficients.{Ops}
 use Rattle.alg_rings.specs.Laws.{RingLaws}
-use Rattle.alg_rings.proofs.Divisibility.{Divides, divides_itself, divides_same, one_divides, divides_zero, divides_trans, divides_multiple, divides_multiple_right, divides_product, divides_product_left, divides_sum, divides_negative, divides_rest}
-use Rattle.alg_rings.proofs.Rings.{zero_or_not, mul_zero, zero_mul, mul_one, add_mul, neg_mul, neg_add, mul_neg, add_zero, same_from_difference}
+use Rattle.alg_rings.proofs.Divisibility.{Divides, divides_same, one_divides, divides_zero, divides_trans, divides_product, divides_rest}
+use Rattle.alg_rings.proofs.Rings.{zero_or_not, mul_zero, zero_mul, mul_neg, add_zero, same_from_difference}
 
 pub record EuclideanLaws {R : Type 0} (o : Ops R) (size : R → ℕ) (Monic : R → Type 0) : Type 0 where
   pub ring : RingLaws o

@@ -1,5 +1,5 @@
 -- The polynomials over a field have division with remainder by their numbers of coefficients, and a monic associate each.
-use Rattle.std.proofs.Common.{◌≡◌, ◌≢◌, ◌<◌, sym, refl, ap, ap₂, ◌∙◌, arith, List, [], ◌∷◌, length, map}
+use Rattle.std.proofs.Common.{◌≡◌, ◌≢◌, ◌<◌, sym, refl, ap, ap₂, ◌∙◌, arith, List, [], ◌∷◌, length}
 use Rattle.std.proofs.lemmas.List.{nil_from_length}
 use Rattle.std.proofs.lemmas.List.Elements.{All-nil, All-cons}
 use Rattle.alg_model.specs.Coefficients.{Ops, Carrier}
@@ -8,11 +8,9 @@ use Rattle.alg_model.specs.Factors.{IsPolynomial, IsMonic, IsDivision}
 use Rattle.alg_model.specs.Fields.{IsField}
 use Rattle.alg_rings.specs.Laws.{FieldLaws, IsPropositional}
 use Rattle.alg_rings.proofs.Rings
-use Rattle.alg_rings.proofs.Trims
-use Rattle.alg_rings.proofs.Homomorphisms.{trim-map, leading-map}
-use Rattle.alg_rings.proofs.Elements.{underlying, element_ops, underlying_homomorphism, underlying_injective, on_valid, element_field}
+use Rattle.alg_rings.proofs.Elements.{underlying, element_ops, element_field}
 use Rattle.alg_rings.proofs.Validity.{leading_valid}
-use Rattle.alg_rings.proofs.CarrierPolynomials.{trimmed_elements, constant_trimmed, leading_not_zero}
+use Rattle.alg_rings.proofs.CarrierPolynomials.{constant_trimmed, leading_not_zero}
 use Rattle.alg_rings.proofs.Divisors.{Polynomial, polynomial_ops, polynomial_laws, same_polynomial, length_poly_product, leading_poly_product, division}
 use Rattle.alg_divisors.proofs.Euclidean.{EuclideanLaws}
 

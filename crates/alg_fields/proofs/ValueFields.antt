@@ -19,7 +19,6 @@ use Rattle.alg_rings.proofs.Trims
 use Rattle.alg_rings.proofs.Validity.{sum_valid, product_valid, negatives_valid}
 use Rattle.alg_rings.proofs.Divisors.{Polynomial, polynomial_ops, same_polynomial}
 use Rattle.alg_divisors.proofs.Euclidean
-use Rattle.alg_rings.proofs.Divisibility.{Divides}
 use Rattle.alg_divisors.proofs.Irreducible
 use Rattle.alg_divisors.proofs.EuclideanPolynomials.{polynomials_euclidean}
 use Rattle.alg_divisors.proofs.PolynomialFactors.{irreducible_from}

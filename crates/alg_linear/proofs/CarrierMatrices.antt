@@ -1,10 +1,8 @@
 -- From matrices over a carrier, as lists, to functions of row and column with values in the carrier's elements, and back.
-use Rattle.std.proofs.Common.{◌≡◌, ℕ, zero, suc, ◌<◌, Bool, true, false, cond, ◌==◌, List, [], length, map, get_or, All, refl, ap, sym, ◌∙◌, subst, ⊎_elim, arith}
+use Rattle.std.proofs.Common.{◌≡◌, ℕ, zero, suc, ◌<◌, Bool, true, false, cond, ◌==◌, List, [], length, map, get_or, All, refl, ap, sym, ◌∙◌, subst, arith}
 use Rattle.std.specs.List.{range_with_len}
-use Rattle.std.proofs.lemmas.List.{get_or_past}
 use Rattle.std.proofs.lemmas.List.FromFn.{length-map-range_with_len, get_or-map-range_with_len}
 use Rattle.std.proofs.lemmas.List.Elements.{All-from_get_or}
-use Rattle.std.proofs.lemmas.Bool.{cases_lt}
 use Rattle.alg_model.specs.Coefficients.{Carrier}
 use Rattle.alg_model.specs.Fields.{IsRing}
 use Rattle.alg_model.specs.Matrices.{Matrix, column_at, entry, zero_column, unit_column, combination, matrix_product, identity_matrix, IsColumn, IsMatrix}

@@ -8,7 +8,7 @@ use Rattle.alg_model.specs.Matrices.{Matrix, column_at, entry, IsMatrix, IsInver
 use Rattle.alg_rings.specs.Laws.{IsPropositional}
 use Rattle.alg_rings.proofs.Elements.{Element, element_ops, underlying_injective}
 use Rattle.alg_linear.proofs.Grids
-use Rattle.alg_linear.specs.PrivateGrids.{delta, grid_product}
+use Rattle.alg_linear.specs.PrivateGrids.{grid_product}
 use Rattle.alg_linear.specs.PrivateGrids.{IsReducedTo}
 use Rattle.alg_linear.specs.PrivateGrids.{IsTransformed}
 use Rattle.alg_linear.proofs.Columns.{length_unit_column, unit_column_at, length_product, length_identity, same_columns}

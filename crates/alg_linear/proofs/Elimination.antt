@@ -17,7 +17,6 @@ use Rattle.alg_linear.specs.PrivateGrids.{RowEquivalent}
 use Rattle.alg_linear.proofs.RowOperations.{equivalent_itself, equivalent_then, equivalent_swapped, equivalent_scaled, equivalent_added, swap_rows, scale_row, add_row, swapped, swapped_first, swapped_to_first, swapped_other, swapped_below}
 use Rattle.alg_linear.specs.PrivateGrids.{IsReducedTo}
 use Rattle.alg_linear.proofs.RowReduction.{reduced_start, reduced_without_pivot, reduced_swapped, reduced_scaled, reduced_cleared, clearing, clearing_pivot, clearing_other}
-use Rattle.alg_linear.proofs.CarrierMatrices
 use Rattle.alg_linear.specs.PrivateElimination.{row_entries, IsEliminated}
 
 -- row s in the place of row r, multiplied by u, and the others cleared in column m by it

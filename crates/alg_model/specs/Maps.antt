@@ -1,7 +1,6 @@
 -- Finite fields, and maps between them as the images of 1, x, x^2, ..
 --     Field                        a characteristic and a polynomial over its residues
---     IsFiniteField K              a prime, and a monic irreducible
--- polynomial
+--     IsFiniteField K              a prime, and a monic irreducible polynomial
 --     field_values K               the values of K: residues modulo its polynomial
 --     degree_of K, generator K     the degree of its polynomial; the class of x
 --     constant K c, constants K f  a residue as a value; the coefficients of f as values
@@ -11,8 +10,7 @@
 --     powers F v n                 1, v, .., v^(n - 1)
 --     frobenius_map F t            the map of F into itself that sends a to a^(p^t)
 --     IsEmbedding E F m            m keeps one, sums and products
---     IsMeet I J K L u v a b       what a and b send to one value of K comes, by u and v, from one
--- value of L
+--     IsMeet I J K L u v a b       what a and b send to one value of K comes by u and v from one of L
 use Rattle.std.specs.Prelude.{◌≡◌, ℕ, ◌^◌, List, [], ◌∷◌, length, map, All}
 use Rattle.std.specs.List.{range_with_len}
 use Rattle.alg_model.specs.Coefficients.{Carrier, power, mod_ops, residues, IsPrime}

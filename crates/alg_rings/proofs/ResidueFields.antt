@@ -1,5 +1,5 @@
 -- The residues modulo a prime form a field.
-use Rattle.std.proofs.Common.{◌≡◌, ◌≢◌, ℕ, ◌*◌, ◌%◌, ◌<◌, ◌≤◌, mod-lt, ap, sym, ◌∙◌, arith}
+use Rattle.std.proofs.Common.{ℕ, ◌%◌, ◌≤◌, mod-lt, ◌∙◌, arith}
 use Rattle.std.proofs.lemmas.Nat.{mul-mod_second}
 use native.Mathlib.Nat.{ℕ_set}
 use native.Mathlib.Bridge.{le_prop}

@@ -1,5 +1,5 @@
 -- The entries of columns over a carrier are valid, zeros past the end included.
-use Rattle.std.proofs.Common.{◌≡◌, ℕ, ◌<◌, List, [], length, get_or, All, sym, subst, ⊎_elim}
+use Rattle.std.proofs.Common.{ℕ, List, [], length, get_or, All, sym, subst, ⊎_elim}
 use Rattle.std.proofs.lemmas.List.{get_or_past}
 use Rattle.std.proofs.lemmas.Bool.{cases_lt}
 use Rattle.alg_model.specs.Coefficients.{Carrier}
