@@ -140,10 +140,6 @@ module _ {A : Type 0} {o : Ops A} (F : FieldLaws o) {p : ℕ} (prime : IsPrime p
   pub frobenius_injective : (i : ℕ) (x y : A) → frobenius o p i x ≡ frobenius o p i y → x ≡ y
   frobenius_injective i = injective F.ring F.ring (frobenius_homomorphism i)
 
-  -- the same for powers of a -> a^q, where q = p^m
-  pub power_homomorphism : (m : ℕ) → Homomorphism o o (λ a. power o a (p ^ m))
-  power_homomorphism m = frobenius_homomorphism m
-
   -- and so is one of a -> a^q
   pub frobenius_cancel : (m i : ℕ) (x y : A) → frobenius o (p ^ m) i x ≡ frobenius o (p ^ m) i y
       → x ≡ y

@@ -1,32 +1,34 @@
--- The residues modulo a characteristic are a finite field, and so are the values modulo an
+-- The residues modulo a prime are a finite field, and so are the values modulo an
 -- irreducible polynomial over a finite
 -- field, with Frobenius of order exactly the degree on the generator.
-use Rattle.std.proofs.Common.{◌≡◌, ◌≢◌, ⊎_elim, ℕ, ◌-◌, ◌*◌, ◌^◌, ◌%◌, ◌<◌, ◌≤◌, List, length, map, ap, sym, ◌∙◌, subst, arith, mod-lt}
+use Rattle.std.proofs.Common.{◌≡◌, ◌≢◌, ⊎_elim, ℕ, ◌-◌, ◌*◌, ◌^◌, ◌%◌, ◌<◌, ◌≤◌, List, length, map, ap, sym, ◌∙◌, subst, arith, mod-lt, slice_index_or}
 use Rattle.std.proofs.Math.Nat.{mod-eq_of_lt, mul-pos}
 use Rattle.std.proofs.lemmas.List.{length-map}
 use Rattle.std.proofs.lemmas.Bool.{cases_lt}
+use Rattle.std.specs.List.{range_with_len}
+use Rattle.std.proofs.lemmas.List.FromFn.{length-map-range_with_len, get_or-map-range_with_len}
 use Rattle.alg_model.specs.Coefficients.{Ops, Carrier, IsPrime, power, times}
 use Rattle.alg_model.specs.Polynomials.{evaluate, leading}
 use Rattle.alg_model.specs.Factors.{IsMonic, IsIrreducible}
 use Rattle.alg_model.specs.Values.{degree, values}
-use Rattle.alg_model.specs.Fields.{IsField}
+use Rattle.alg_model.specs.Fields.{IsField, IsRing}
 use Rattle.alg_rings.specs.Laws.{IsPropositional, FieldLaws}
 use Rattle.alg_rings.proofs.Elements.{Element, underlying, element_ops, element_field, underlying_injective, underlying_lists_injective, elements, elements_are, underlying_valid, underlying_homomorphism}
 use Rattle.alg_rings.proofs.Homomorphisms.{Homomorphism, leading-map}
 use Rattle.alg_rings.proofs.ResidueFields.{prime_residues_field, residues_propositional}
 use Rattle.alg_rings.proofs.Divisors.{Polynomial}
 use Rattle.alg_fields.proofs.OverResidues.{first_power}
-use Rattle.alg_fields.proofs.FiniteFields.{residues_characteristic, fermat}
+use Rattle.alg_fields.proofs.FiniteFields.{FieldOfSize, residues_characteristic, fermat}
 use Rattle.alg_fields.proofs.PowerRoots.{image_characteristic}
 use Rattle.alg_finite.proofs.Enumerations.{Enumeration, Repeats, digits, number, length_digits, number_below, digits_number, number_digits, repeats_or_distinct, members_distinct}
 use Rattle.alg_finite.proofs.FieldMaps.{equal_or_not}
-use Rattle.alg_finite.proofs.FiniteField.{FiniteField, frobenius, frobenius_add, frobenius_of_power, frobenius_homomorphism, power_homomorphism, frobenius_cancel, root_bound_at, pow_mul, pow_one, pow_strict, pow_positive, above_one}
+use Rattle.alg_finite.proofs.FiniteField.{FiniteField, frobenius, frobenius_add, frobenius_of_power, frobenius_homomorphism, frobenius_cancel, root_bound_at, pow_mul, pow_one, pow_strict, pow_positive, above_one}
 use Rattle.alg_finite.proofs.Extensions.{fixed_few, frobenius_of_value}
 use Rattle.alg_finite.proofs.Values
 
 -- **the residues are a finite field**
 module _ (p : ℕ) (h : IsPrime p) where
-  -- the residues modulo a characteristic p are a finite field with p members
+  -- the residues modulo a prime p are a finite field with p members
   pub residues_finite : FiniteField (element_ops (prime_residues_field p h).ring) p 1
   residues_finite = record {
     field = element_field (residues_propositional p) (prime_residues_field p h);
@@ -43,6 +45,30 @@ module _ (p : ℕ) (h : IsPrime p) where
     fixed = λ a. ap (power (element_ops (prime_residues_field p h).ring) a) (pow_one p)
         ∙ fermat p (prime_residues_field p h).ring h a;
   }
+
+-- a finite field in the form that Berlekamp's facts ask for
+pub field_of_size : {A : Type 0} {c : Carrier A} (R : IsRing c) {p n : ℕ}
+    → FiniteField (element_ops R) p n → FieldOfSize R (p ^ n)
+field_of_size {A} {c} R {p} {n} K = record {
+  members = map K.members.at (range_with_len 0 (p ^ n));
+  complete = λ a. (
+    K.members.index a,
+    omega (arith, long, K.members.index_below a),
+    here (K.members.index a) a (K.members.index_below a) ∙ K.members.at_index a,
+  );
+  distinct = λ i j d l k e. let s : j < p ^ n = omega (arith, long) in
+      members_distinct K.members i j l s (sym (here i d (omega arith)) ∙ e ∙ here j d s);
+  count = long;
+  above_one = above_one K;
+  fixed = K.fixed;
+}
+  where
+    long : length (map K.members.at (range_with_len 0 (p ^ n))) ≡ p ^ n
+    long = length-map-range_with_len K.members.at 0 (p ^ n)
+
+    here : (i : ℕ) (d : Element c) → i < p ^ n
+        → slice_index_or (map K.members.at (range_with_len 0 (p ^ n))) i d ≡ K.members.at i
+    here i d l = get_or-map-range_with_len K.members.at 0 (p ^ n) i i d l (omega arith)
 
 module _ {A : Type 0} {c : Carrier A} (P : IsPropositional c) (F : IsField c) {p m : ℕ}
     (K : FiniteField (element_ops F.ring) p m)
@@ -116,7 +142,7 @@ module _ {A : Type 0} {c : Carrier A} (P : IsPropositional c) (F : IsField c) {p
   T : Homomorphism (Values.value_element_ops P F f not_constant monic)
       (Values.value_element_ops P F f not_constant monic)
       (λ a. power (Values.value_element_ops P F f not_constant monic) a (p ^ m))
-  T = power_homomorphism L K.prime values_characteristic m
+  T = frobenius_homomorphism L K.prime values_characteristic m
 
   conjugate_is_root : (i : ℕ) → evaluate W (map h G) (frobenius W (p ^ m) i x) ≡ W.zero
   conjugate_is_root i =

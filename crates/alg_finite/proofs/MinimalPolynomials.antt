@@ -209,3 +209,11 @@ module _ {X : Type 0} {c : Carrier X} (P : IsPropositional c) (Fc : IsField c) {
           sym (orbit_at F.field.ring (p ^ m) O.size a r.0 b l)
               ∙ r.2,
         )
+
+    -- **f is the product of x - b over the orbit of a root**
+    pub root_polynomial : map h (coefficients c f)
+        ≡ linear_product o (orbit o (p ^ m) (degree f.0) a)
+    root_polynomial =
+        ap (λ g. map h (coefficients c g)) (sym same)
+        ∙ ap (map h) (coefficients_of P Fc.ring O.polynomial (leading_polynomial_not_zero a O))
+        ∙ O.image ∙ ap (λ d. linear_product o (orbit o (p ^ m) d a)) size_is_degree

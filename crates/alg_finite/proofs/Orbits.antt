@@ -9,6 +9,8 @@ use Rattle.std.proofs.Common.{◌≡◌, ◌≢◌, ◌⊎◌, ⊎_elim, ℕ, ze
 use Rattle.std.proofs.Math.Nat.{mul_comm}
 use Rattle.std.proofs.lemmas.Bool.{cases_lt}
 use Rattle.std.proofs.lemmas.List.{length-map}
+use Rattle.std.specs.List.{range_with_len}
+use Rattle.std.proofs.lemmas.List.FromFn.{fill_by_all}
 use Rattle.alg_model.specs.Coefficients.{Ops, power}
 use Rattle.alg_model.specs.Polynomials.{evaluate, leading, product, scale, shift}
 use Rattle.alg_rings.specs.Laws.{RingLaws}
@@ -20,7 +22,7 @@ use Rattle.alg_rings.proofs.Evaluation
 use Rattle.alg_fields.proofs.Roots.{linear, linear_product, linear_product_is, value_of_linear}
 use Rattle.alg_finite.proofs.Enumerations.{Distinct, first_below}
 use Rattle.alg_finite.proofs.FieldMaps.{equal_or_not, injective}
-use Rattle.alg_finite.proofs.FiniteField.{FiniteField, frobenius, frobenius_none, frobenius_next, frobenius_add, frobenius_of_power, frobenius_multiple, frobenius_remainder, power_homomorphism, frobenius_cancel, root_bound_at, above_one}
+use Rattle.alg_finite.proofs.FiniteField.{FiniteField, frobenius, frobenius_none, frobenius_next, frobenius_add, frobenius_of_power, frobenius_multiple, frobenius_remainder, frobenius_homomorphism, frobenius_cancel, root_bound_at, above_one}
 use Rattle.alg_finite.proofs.Extensions.{fixed_is_image, frobenius_of_value}
 
 -- a, a^q, .., d of them
@@ -34,6 +36,14 @@ pub record Period {A : Type 0} (o : Ops A) (q : ℕ) (a : A) (d : ℕ) : Type 0 
   pub least : (j : ℕ) → 0 < j → frobenius o q j a ≡ a → d ≤ j
 
 -- ---- products of x - a
+-- a map that keeps the operations keeps them
+pub linear_product-map : {A B : Type 0} {o : Ops A} {k : Ops B} {T : A → B} → Homomorphism o k T
+    → (roots : List A) → map T (linear_product o roots) ≡ linear_product k (map T roots)
+linear_product-map {A} {B} {o} {k} {T} H [] = ap (λ t. t ∷ []) H.one
+linear_product-map {A} {B} {o} {k} {T} H (a ∷ roots) =
+    product-map H (linear o a) (linear_product o roots)
+    ∙ ap₂ (product k) (ap₂ (λ s t. s ∷ t ∷ []) (H.neg a) H.one) (linear_product-map H roots)
+
 module _ {A : Type 0} {o : Ops A} (R : RingLaws o) where
   -- a product of n factors x - a has n + 1 coefficients
   pub length_linear_product : (roots : List A)
@@ -95,6 +105,13 @@ module _ {A : Type 0} {o : Ops A} (R : RingLaws o) where
   orbit_at q (suc d) a (suc i) e l = orbit_at q d (power o a q) i e (omega arith)
       ∙ sym (frobenius_next R q i a)
 
+  -- the orbit as the list of its members by number
+  pub orbit_is : (q d : ℕ) (a : A)
+      → orbit o q d a ≡ map (λ i. frobenius o q i a) (range_with_len 0 d)
+  orbit_is q d a =
+      fill_by_all (λ i. frobenius o q i a) (orbit o q d a) d a (length_orbit q d a)
+      (λ i l. orbit_at q d a i a l)
+
   orbit_last : (q d : ℕ) (a : A) → orbit o q (suc d) a ≡ orbit o q d a ++ frobenius o q d a ∷ []
   orbit_last q zero a = ap (λ t. t ∷ []) (sym (frobenius_none R q a))
   orbit_last q (suc d) a =
@@ -105,13 +122,6 @@ module _ {A : Type 0} {o : Ops A} (R : RingLaws o) where
       → map (λ b. power o b q) (orbit o q d a) ≡ orbit o q d (power o a q)
   orbit_power q zero a = refl
   orbit_power q (suc d) a = ap (λ t. power o a q ∷ t) (orbit_power q d (power o a q))
-
-  linear_product-map : {T : A → A} → Homomorphism o o T → (roots : List A)
-      → map T (linear_product o roots) ≡ linear_product o (map T roots)
-  linear_product-map {T} H [] = ap (λ t. t ∷ []) H.one
-  linear_product-map {T} H (a ∷ roots) =
-      product-map H (linear o a) (linear_product o roots)
-      ∙ ap₂ (product o) (ap₂ (λ s t. s ∷ t ∷ []) (H.neg a) H.one) (linear_product-map H roots)
 
   -- **the product over an orbit is kept by a -> a^q**
   orbit_polynomial_fixed : (q d : ℕ) (a : A) → Homomorphism o o (λ b. power o b q)
@@ -203,7 +213,7 @@ module _ {A B : Type 0} {k : Ops B} {o : Ops A} {h : B → A} (H : Homomorphism 
           let g : (g : List B) × (map h g ≡ linear_product o (orbit o (p ^ m) (suc d) a)) =
           fixed_list (linear_product o (orbit o (p ^ m) (suc d) a))
           (orbit_polynomial_fixed F.field.ring (p ^ m) d a
-          (power_homomorphism F.field F.prime F.characteristic m) D.returns) in
+          (frobenius_homomorphism F.field F.prime F.characteristic m) D.returns) in
           record { size = suc d; period = D; polynomial = g.0; image = g.1 }
 
   module _ (a : A) (O : Orbit o h (p ^ m) a) where
@@ -236,9 +246,9 @@ module _ {A B : Type 0} {k : Ops B} {o : Ops A} {h : B → A} (H : Homomorphism 
     pub zero_on_orbit : (f : List B) → evaluate o (map h f) a ≡ o.zero → (i : ℕ)
         → evaluate o (map h f) (frobenius o (p ^ m) i a) ≡ o.zero
     zero_on_orbit f e i =
-        frobenius_of_value H K F.field (power_homomorphism F.field F.prime F.characteristic m) f i a
+        frobenius_of_value H K F.field (frobenius_homomorphism F.field F.prime F.characteristic m) f i a
         ∙ ap (frobenius o (p ^ m) i) e ∙ frobenius_of_power F.field.ring p m i o.zero
-        ∙ (power_homomorphism F.field F.prime F.characteristic (m * i)).zero
+        ∙ (frobenius_homomorphism F.field F.prime F.characteristic (m * i)).zero
 
     -- so it has more coefficients than the orbit has members
     pub vanishing_is_long : (f : List B) → leading k f ≢ k.zero → evaluate o (map h f) a ≡ o.zero

@@ -5,7 +5,7 @@ use Rattle.alg_model.specs.Coefficients.{Ops, power}
 use Rattle.alg_rings.proofs.Rings
 use Rattle.alg_rings.proofs.Homomorphisms.{Homomorphism, power-map}
 use Rattle.alg_finite.proofs.Enumerations.{Distinct}
-use Rattle.alg_finite.proofs.FiniteField.{FiniteField, frobenius, frobenius_of_power, frobenius_multiple, frobenius_homomorphism, power_homomorphism, pow_mul, above_one}
+use Rattle.alg_finite.proofs.FiniteField.{FiniteField, frobenius, frobenius_of_power, frobenius_multiple, frobenius_homomorphism, pow_mul, above_one}
 use Rattle.alg_finite.proofs.Extensions.{fixed_is_image}
 use Rattle.alg_finite.proofs.Traces
 
@@ -32,13 +32,13 @@ module _ {A B : Type 0} {k : Ops B} {o : Ops A} {h : B → A} (H : Homomorphism 
   pub trace_is_image : (a : A) → (b : B) × (h b ≡ Traces.trace_of o (p ^ m) e a)
   trace_is_image a = fixed_is_image H K F.field (above_one K) (Traces.trace_of o (p ^ m) e a)
       (Traces.trace_fixed F.field (p ^ m) (powers_keep F m) e a (all_back a)
-      (power_homomorphism F.field F.prime F.characteristic m))
+      (frobenius_homomorphism F.field F.prime F.characteristic m))
 
   -- norms lie in B
   pub norm_is_image : (a : A) → (b : B) × (h b ≡ Traces.norm_of o (p ^ m) e a)
   norm_is_image a = fixed_is_image H K F.field (above_one K) (Traces.norm_of o (p ^ m) e a)
       (Traces.norm_fixed F.field (p ^ m) (powers_keep F m) e a (all_back a)
-      (power_homomorphism F.field F.prime F.characteristic m))
+      (frobenius_homomorphism F.field F.prime F.characteristic m))
 
   -- **the trace is linear over B**
   pub trace_sum : (a b : A)

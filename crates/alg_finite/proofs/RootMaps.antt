@@ -92,6 +92,14 @@ module _ {X : Type 0} {c : Carrier X} (P : IsPropositional c) (Fc : IsField c) (
       W : Ops (Element (values c f.0))
       W = Values.value_element_ops P Fc f not_constant monic
 
+  -- **a polynomial and its remainder modulo f have one value at a root of f**
+  pub value_of_remainder : (g : Polynomial c)
+      → root_map (Values.remainder_element P Fc f not_constant monic g) ≡ evaluate_by c h o g a
+  value_of_remainder g =
+      let r = Values.remainder_element P Fc f not_constant monic g in
+      sym (by_class r r.1)
+      ∙ same_value (class r.0 r.1) g (Remainders.same_as_value P Fc f not_constant monic g)
+
   -- **and that sends the generator to the root**
   pub root_map_generator : root_map (Values.generator_element P Fc f not_constant monic) ≡ a
   root_map_generator =

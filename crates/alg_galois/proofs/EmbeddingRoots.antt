@@ -63,15 +63,18 @@ least_root_unique F g v w k l = compared (order_by nat_cmp v w) refl
 -- ---- roots of the polynomial of E in F
 module _ (p : ℕ) (h : IsPrime p) (f : List ℕ) (M : IsModulus p f) (g : List ℕ)
     (N : IsModulus p g) where
-  abbrev IsZero : Element (field_values (field_of p g)) → Type 0
+  -- the polynomial of E is zero at v
+  abbrev pub IsZero : Element (field_values (field_of p g)) → Type 0
   IsZero v = evaluate_by (residues p) (of_residue p h g N) (ops p h g N) (modulus p h f M) v
       ≡ (ops p h g N).zero
 
-  root_to : (v : Element (field_values (field_of p g))) → IsZero v
+  -- a root as an element, and as a list
+  pub root_to : (v : Element (field_values (field_of p g))) → IsZero v
       → IsRoot (field_of p g) (constants (field_of p g) f) v.0
   root_to v e = (v.1, sym (evaluate_constants p h g N (modulus p h f M) v) ∙ ap (λ y. y.0) e)
 
-  root_from : (v : List ℕ) (r : IsRoot (field_of p g) (constants (field_of p g) f) v)
+  -- and back
+  pub root_from : (v : List ℕ) (r : IsRoot (field_of p g) (constants (field_of p g) f) v)
       → IsZero (v, r.0)
   root_from v r = underlying_injective (propositional p h g N) _ _
       (evaluate_constants p h g N (modulus p h f M) (v, r.0) ∙ r.1)

@@ -38,7 +38,8 @@ pub at_one_characteristic : (E : Field) (p : ℕ) → E.characteristic ≡ p →
     → T (field_of p E.polynomial) → T E
 at_one_characteristic E p e T t = subst (λ q. T (field_of q E.polynomial)) (sym e) t
 
-map_map : {A B C D : Type 0} (g : B → D) (h : A → B) (g' : C → D) (h' : A → C)
+-- two maps in either order
+pub map_map : {A B C D : Type 0} (g : B → D) (h : A → B) (g' : C → D) (h' : A → C)
     → ((a : A) → g (h a) ≡ g' (h' a)) → (f : List A) → map g (map h f) ≡ map g' (map h' f)
 map_map g h g' h' e [] = refl
 map_map g h g' h' e (a ∷ f) = ap₂ ◌∷◌ (e a) (map_map g h g' h' e f)

@@ -9,3 +9,4 @@ pub mod FieldTraces
 pub mod SubfieldTraces
 pub mod FieldMinimals
 pub mod FieldSizes
+pub mod RootPolynomials

@@ -1,5 +1,5 @@
--- The laws of finite fields that this crate proves, as statements on the fields of the model: F, E are fields, p is their
--- characteristic, n is the degree of F, x its generator.
+-- The laws of finite fields that this crate proves, as statements on the fields of the model: F, E
+-- are fields, p is their characteristic, n is the degree of F, x its generator.
 use Rattle.std.specs.Prelude.{◌≡◌, ◌≢◌, ◌↔◌, ℕ, ◌/◌, ◌%◌, ◌^◌, ◌<◌, List, length, map, All, AllPairs, Contains}
 use Rattle.std.specs.Int.{IsGcd}
 use Prim.Native.Nat.{◌∣◌}

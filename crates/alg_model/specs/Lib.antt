@@ -7,3 +7,7 @@ pub mod Matrices
 pub mod Maps
 pub mod Roots
 pub mod Conjugates
+pub mod Lattices
+pub mod Candidates
+pub mod Filling
+pub mod Declaring

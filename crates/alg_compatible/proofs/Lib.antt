@@ -1,0 +1,15 @@
+pub mod FiniteFields
+pub mod Transfer
+pub mod Insertions
+pub mod Filling
+pub mod Candidates
+pub mod Additions
+pub mod Declaring
+pub mod RowsAfter
+pub mod Choices
+pub mod Storing
+pub mod Rules
+pub mod Determined
+pub mod Tables
+pub mod Existence
+pub mod Laws

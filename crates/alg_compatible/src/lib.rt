@@ -1,0 +1,57 @@
+//! Lattices of finite fields: the theory of compatible lattices for the fields and maps of the model, and the laws that a reader
+//! of their contracts may want, as contracts of functions that do nothing.
+#![tactic(auto)]
+
+ghost use Rattle.alg_compatible.specs.Theorems.{OpeningIsCompatible, DeclaringKeepsCompatible, DeclaringKeepsRows, FillingKeepsCompatible};
+ghost use Rattle.alg_compatible.specs.Theorems.{FillingKeepsRows, FillingIsByRules, PlainEmbeddingExists, ChoiceExists};
+ghost use Rattle.alg_compatible.specs.Theorems.{ChoiceIsUnique, MissingDegreesExist, MissingDegreesAreUnique, AddedFieldsAreForced};
+ghost use Rattle.alg_compatible.specs.Theorems.{AddedMapsAreForced, StoredPairChangesNothing, OpeningIsDetermined, DeclaringIsDetermined};
+ghost use Rattle.alg_compatible.specs.Theorems.{FillingIsDetermined, FillingExists};
+
+/// The prime fields with their identities are a compatible lattice, the one opening lattice of their edition.
+pub fn opening_is_compatible()
+    ensures compatible { OpeningIsCompatible }
+    ensures determined { OpeningIsDetermined }
+{}
+
+/// Declaring a field leaves a compatible lattice compatible.
+pub fn declaring_keeps_compatible()
+    ensures compatible { DeclaringKeepsCompatible }
+    ensures rows { DeclaringKeepsRows }
+    ensures determined { DeclaringIsDetermined }
+{}
+
+/// Filling a compatible lattice by a candidate leaves it compatible, and stores what the rules for members, for maps out of them
+/// and for all else say.
+pub fn filling_keeps_compatible()
+    ensures compatible { FillingKeepsCompatible }
+    ensures rows { FillingKeepsRows }
+    ensures maps { FillingIsByRules }
+    ensures exists { FillingExists }
+    ensures determined { FillingIsDetermined }
+{}
+
+/// The extension theorem: where one field of a compatible lattice has an embedding into another at all, it has one that agrees with
+/// all common subfields; among all that do, one is the first.
+pub fn plain_embedding_exists()
+    ensures candidate { PlainEmbeddingExists }
+    ensures choice { ChoiceExists }
+    ensures unique { ChoiceIsUnique }
+{}
+
+/// The degrees that a lattice lacks once a map is added: there is one list of them.
+pub fn missing_degrees_are_determined()
+    ensures exists { MissingDegreesExist }
+    ensures unique { MissingDegreesAreUnique }
+{}
+
+/// What an insertion adds is forced: no compatible lattice with the new map does with less.
+pub fn additions_are_forced()
+    ensures fields { AddedFieldsAreForced }
+    ensures maps { AddedMapsAreForced }
+{}
+
+/// Where the pair is stored already, filling changes nothing.
+pub fn stored_pair_changes_nothing()
+    ensures nothing { StoredPairChangesNothing }
+{}
