@@ -1,0 +1,4 @@
+pub mod Histories
+pub mod Holders
+pub mod Keeps
+pub mod Meets

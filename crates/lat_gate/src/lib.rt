@@ -1,0 +1,16 @@
+//! A lock with a count, under which a history only grows.
+#![tactic(auto)]
+
+mod faults;
+mod gate;
+mod machine;
+mod pass;
+mod rule;
+mod turn;
+mod view;
+
+pub use faults::NoMemory;
+pub use gate::Gate;
+pub use machine::Machine;
+pub use pass::Pass;
+pub use turn::Turn;
