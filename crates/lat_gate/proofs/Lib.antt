@@ -2,3 +2,4 @@ pub mod Histories
 pub mod Holders
 pub mod Keeps
 pub mod Meets
+pub mod Dealing

@@ -174,3 +174,19 @@ module _ {M E : Type 0} (entries : M → List E) (number : E → ℕ) (setting :
           let also = every n (subst (λ (k : ℕ). IsDealt k n) (sym known.passes_are) f.dealt) in
           absurd (alone entries number setting gate_setting opened passes s r i id w v n st.1.3.1.0 also.0 (λ same. apart_seats s r.now i id w v st.1.1 at st.1.2 idle (sym same)) st.1.1 at st.1.3.1.1 also.1)
       ] r.stands
+
+  -- the value that the slot of a closed gate has is such a machine
+  pub closed_slot : (id : ℕ) (v : View E) (words : List ℕ) (slots : List (Option M)) (slot : Option M) → Final (Seen Holds_now id v) words slots → v.hand ≡ Idle → HasNumber v.own
+      → ((n : ℕ) → IsDealt v.passes n → (mine : List E) × Contains v.own (n, mine)) → get_elem? slots 0 ≡ some slot
+      → (x : M) × (slot ≡ Some x) × Closes v x
+  closed_slot id v words slots slot final idle some_number every at =
+      let done = closes id v words slots final idle some_number every in
+      (done.0, some-injective slot (Some done.0) (sym at ∙ done.1), done.2)
+
+  pub closed_machine : (id : ℕ) (v : View E) (words : List ℕ) (slots : List (Option M)) (slot : Option M) → Final (Seen Holds_now id v) words slots → v.hand ≡ Idle → HasNumber v.own
+      → ((n : ℕ) → IsDealt v.passes n → (mine : List E) × Contains v.own (n, mine)) → get_elem? slots 0 ≡ some slot
+      → (y : M) → slot ≡ Some y → Closes v y
+  closed_machine id v words slots slot final idle some_number every at y is =
+      let found = closed_slot id v words slots slot final idle some_number every at in
+      let same : found.0 ≡ y = let a : slot ≡ Some found.0 = found.1 in cc in
+      subst (Closes v) same found.2

@@ -7,6 +7,7 @@ use crate::view::{Opening, View};
 use atomic_table::Table;
 use std::alloc::Global;
 
+mod join;
 mod open;
 mod take;
 

@@ -34,8 +34,8 @@ impl<M: Machine> Gate<M> {
             dealt (gate_id made.0) (M.setting machine) (M.entries machine) passes (i + 1))) }
         ensures legal { IfOk result (λ made. M.legal (M.setting machine) (M.entries machine)) }
     {
-        let mut slots = Vec::with_capacity(alloc, 1).map_err(|_| NoMemory)?;
-        let room = Vec::with_capacity(alloc, passes as usize).map_err(|_| NoMemory)?;
+        let mut slots = Vec::with_capacity(alloc, 1)?;
+        let room = Vec::with_capacity(alloc, passes as usize)?;
         let key = Opening {
             machine: Snapshot::of(&machine),
             passes,
