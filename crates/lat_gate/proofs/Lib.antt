@@ -3,3 +3,4 @@ pub mod Holders
 pub mod Keeps
 pub mod Meets
 pub mod Dealing
+pub mod Turns
