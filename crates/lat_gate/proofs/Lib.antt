@@ -4,3 +4,4 @@ pub mod Keeps
 pub mod Meets
 pub mod Dealing
 pub mod Turns
+pub mod Lending

@@ -5,6 +5,7 @@
 --     pass_of t          what the pass knew that the turn was taken with
 --     taken t            the history at the take
 --     machine_of t       the machine
+--     with_machine t x   the turn with another machine
 use Rattle.std.specs.Prelude.{◌≡◌, List}
 use Rattle.atomic_table.specs.Seated.{TableId}
 use Rattle.lat_gate.specs.Steps.{held_log}
@@ -27,8 +28,13 @@ module _ {M E : Type 0} where
   abbrev pub taken : Turn M E → List E
   taken t = held_log t.seat.me.0.hand
 
+  -- the machine
   abbrev pub machine_of : Turn M E → M
   machine_of t = t.machine
+
+  -- the turn with another machine
+  abbrev pub with_machine : Turn M E → M → Turn M E
+  with_machine t x = record t { machine = x }
 
 module _ {M E : Type 0} {g : Ghosts M E} where
   -- what the pass knows

@@ -9,6 +9,8 @@ use crate::rule::GiveBack;
 use crate::view::View;
 use atomic_table::Seat;
 
+mod lend;
+
 /// The machine of a gate, in the hands of the session that took it.
 ///
 /// It has to be spent by `publish` or `give_back`.

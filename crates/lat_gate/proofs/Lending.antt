@@ -1,0 +1,24 @@
+-- A turn whose machine was lent is the same turn: what it keeps of its seat has one proof.
+use Rattle.std.proofs.Common.{◌≡◌, Option}
+use Rattle.std.proofs.Props.{props}
+use base.Stored.{Coded-set}
+use Rattle.atomic_table.specs.Seated.{TableId, table_id_coded}
+use Rattle.atomic_table.specs.Table.{Me}
+use Rattle.atomic_table.specs.declared.shared.Seat.{Seat}
+use Rattle.std.specs.Borrow.{Bor}
+use Rattle.lat_gate.specs.Seats.{IsHeld}
+use Rattle.lat_gate.specs.Passes.{gate_id}
+use Rattle.lat_gate.specs.declared.gate.Gate.{Gate}
+use Rattle.lat_gate.specs.declared.turn.Turn.{Turn}
+use Rattle.lat_gate.specs.declared.view.View.{View}
+
+TableId-set : (a b : TableId) → IsProp (a ≡ b)
+TableId-set = Coded-set table_id_coded
+
+module _ {M E : Type 0} where
+  IsHeld-prop : (m : Me (Option M) (View E)) → IsProp (IsHeld m)
+  IsHeld-prop m = hlevel props
+
+  pub same_turn : (gate : Bor (Gate M E)) (seat : Seat (Option M) (View E)) (x : M) (p p' : seat.table_id ≡ gate_id gate.now) (q q' : IsHeld seat.me)
+      → ◌≡◌ {A = Turn M E} record { gate = gate; seat = seat; machine = x; of_gate = p; held = q } record { gate = gate; seat = seat; machine = x; of_gate = p'; held = q' }
+  same_turn gate seat x p p' q q' = λ i. record { gate = gate; seat = seat; machine = x; of_gate = TableId-set seat.table_id (gate_id gate.now) p p' i; held = IsHeld-prop seat.me q q' i }
