@@ -5,3 +5,4 @@ pub mod Meets
 pub mod Dealing
 pub mod Turns
 pub mod Lending
+pub mod TwoPasses

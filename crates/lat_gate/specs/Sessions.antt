@@ -1,4 +1,5 @@
 -- What a session that adds amounts knows afterwards.
+--     HasOnly n k        its pass has the number n and no other
 --     Adds k e k'        it published one entry more
 --     Sees k k'          it gave the machine back as it was
 --     tally n count      amounts of the number n, from 0 on
@@ -8,6 +9,10 @@ use Rattle.lat_gate.specs.Seats.{Known, published, informed}
 use Rattle.lat_gate.specs.declared.amounts.Amount.{Amount}
 
 module _ {E : Type 0} where
+  -- n is the one number of the pass
+  abbrev pub HasOnly : ℕ → Known E → Type 0
+  HasOnly n k = (mine : List E) × (k.own ≡ (n, mine) ∷ [])
+
   -- the pass has published this entry, after some history that begins with what it had seen
   abbrev pub Adds : Known E → E → Known E → Type 0
   Adds k e k' = (log : List E) × BeginsWith log k.seen × (k' ≡ published k (log ++ e ∷ []) e)

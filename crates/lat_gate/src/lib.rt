@@ -16,5 +16,5 @@ pub use faults::NoMemory;
 pub use gate::Gate;
 pub use machine::Machine;
 pub use pass::Pass;
-pub use sessions::{add, add_each, open_two};
+pub use sessions::{add, add_beside, add_each, open_two};
 pub use turn::Turn;

@@ -3,7 +3,7 @@ ghost use Rattle.std.specs.Prelude.{◌≡◌, ◌≢◌, ℕ, List, [], ◌∷�
 ghost use Rattle.lat_gate.specs.History.{of_number};
 ghost use Rattle.lat_gate.specs.Seats.{dealt};
 ghost use Rattle.lat_gate.specs.Passes.{gate_id, known, IsPassOf};
-ghost use Rattle.lat_gate.specs.Sessions.{Adds, Sees, IsSamePass, tally};
+ghost use Rattle.lat_gate.specs.Sessions.{HasOnly, Adds, Sees, IsSamePass, tally};
 ghost use Rattle.lat_gate.specs.declared.amounts.Amount.{Amount};
 
 use crate::amounts::{Amount, Amounts};
@@ -25,6 +25,23 @@ pub fn open_two(alloc: Global) -> Result<(Gate<Amounts>, Pass<Amounts>, Pass<Amo
     Ok((gate, first, second))
 }
 
+/// Closes a gate with its passes 1 and 2, and gives the amounts.
+pub fn close_two(gate: Gate<Amounts>, first: Pass<Amounts>, second: Pass<Amounts>) -> Amounts
+    requires of_gate { IsPassOf gate first × IsPassOf gate second }
+    requires two { (known first).passes ≡ 2 }
+    requires numbers { HasOnly 1 (known first) × HasOnly 2 (known second) }
+    ensures first { (mine : List Amount) → (known first).own ≡ (1, mine) ∷ [] →
+        of_number (λ entry. entry.number) 1 result ≡ mine }
+    ensures second { (mine : List Amount) → (known second).own ≡ (2, mine) ∷ [] →
+        of_number (λ entry. entry.number) 2 result ≡ mine }
+    ensures others { (n : ℕ) → n ≢ 1 → n ≢ 2 →
+        of_number (λ entry. entry.number) n result ≡ of_number (λ entry. entry.number) n (known first).opening }
+{
+    let mut kept = first;
+    gate.join(&mut kept, second);
+    gate.close(kept)
+}
+
 /// Adds one amount, under the number of the pass.
 pub fn add<R: Wait>(
     rt: &R,
@@ -33,7 +50,7 @@ pub fn add<R: Wait>(
     entry: Amount,
 ) -> (Pass<Amounts>, Result<(), NoMemory>)
     requires of_gate { IsPassOf gate.now pass }
-    requires number { (mine : List Amount) × ((known pass).own ≡ (entry.number, mine) ∷ []) }
+    requires number { HasOnly entry.number (known pass) }
     ensures ok { OnOk result.1 (Adds (known pass) entry (known result.0)) }
     ensures err { OnErr result.1 (Sees (known pass) (known result.0)) }
 {
@@ -55,7 +72,7 @@ pub fn add_each<R: Wait>(
     requires of_gate { IsPassOf gate.now pass }
     requires number { (known pass).own ≡ (number, []) ∷ [] }
     ensures same { IsSamePass (known pass) (known result.0) }
-    ensures own { (mine : List Amount) × ((known result.0).own ≡ (number, mine) ∷ []) }
+    ensures number { HasOnly number (known result.0) }
     ensures ok { OnOk result.1 ((known result.0).own ≡ (number, tally number count) ∷ []) }
 {
     let mut pass = pass;
@@ -67,4 +84,30 @@ pub fn add_each<R: Wait>(
         }
     }
     (pass, Ok(()))
+}
+
+/// Two sessions beside each other add as many amounts each as said; then the gate is closed.
+///
+/// Whatever the order in which they took the machine, the amounts of each are all there, once each and
+/// in the order in which it added them, and there are no others.
+pub fn add_beside<R: Threads + Wait + Sync>(
+    rt: &R,
+    alloc: Global,
+    count: u32,
+) -> Result<Amounts, NoMemory>
+    ensures first { IfOk result (λ amounts. of_number (λ entry. entry.number) 1 amounts ≡ tally 1 count) }
+    ensures second { IfOk result (λ amounts. of_number (λ entry. entry.number) 2 amounts ≡ tally 2 count) }
+    ensures others { IfOk result (λ amounts. (n : ℕ) → n ≢ 1 → n ≢ 2 →
+        of_number (λ entry. entry.number) n amounts ≡ []) }
+{
+    let (gate, first, second) = open_two(alloc)?;
+    let ((first, added), (second, also)) = join(
+        rt,
+        || add_each(rt, &gate, first, 1, count),
+        || add_each(rt, &gate, second, 2, count),
+    );
+    let amounts = close_two(gate, first, second);
+    added?;
+    also?;
+    Ok(amounts)
 }
