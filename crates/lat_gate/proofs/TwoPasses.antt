@@ -3,19 +3,19 @@ use Rattle.std.proofs.Common.{◌≡◌, ◌≤◌, ℕ, List, [], ◌∷◌, �
 use Rattle.std.specs.Prelude.{Contains}
 use mathlib.Core.Logic.{dite}
 use native.Mathlib.Decide.{ℕ_discrete}
-use Rattle.lat_gate.specs.Rule.{IsDealt, Has}
+use Rattle.lat_gate.specs.Rule.{Own, IsDealt, Has}
 use Rattle.lat_gate.proofs.Holders.{contains_head, contains_tail}
 
-module _ {E : Type 0} (own first second : List (ℕ × List E)) (both : own ≡ first ++ second) where
+module _ {E : Type 0} (own first second : Own E) (both : own ≡ first ++ second) where
   abbrev one : ℕ → List E → ℕ × List E
   one n mine = (n, mine)
 
   pub in_first : (n : ℕ) (mine : List E) → first ≡ (n, mine) ∷ [] → Contains own (one n mine)
-  in_first n mine is = subst (λ (l : List (ℕ × List E)). Contains l (one n mine)) (sym (both ∙ ap (λ (l : List (ℕ × List E)). l ++ second) is)) (contains_head (one n mine) second)
+  in_first n mine is = subst (λ (l : Own E). Contains l (one n mine)) (sym (both ∙ ap (λ (l : Own E). l ++ second) is)) (contains_head (one n mine) second)
 
   pub in_second : (m n : ℕ) (theirs mine : List E) → first ≡ (m, theirs) ∷ [] → second ≡ (n, mine) ∷ [] → Contains own (one n mine)
-  in_second m n theirs mine f s = let tail : List (ℕ × List E) = one n mine ∷ [] in
-      subst (λ (l : List (ℕ × List E)). Contains l (one n mine)) (sym (both ∙ ap (λ (l : List (ℕ × List E)). l ++ second) f ∙ ap (λ (l : List (ℕ × List E)). one m theirs ∷ l) s))
+  in_second m n theirs mine f s = let tail : Own E = one n mine ∷ [] in
+      subst (λ (l : Own E). Contains l (one n mine)) (sym (both ∙ ap (λ (l : Own E). l ++ second) f ∙ ap (λ (l : Own E). one m theirs ∷ l) s))
       (contains_tail (one n mine) (one m theirs) tail (contains_head (one n mine) []))
 
   -- these are all numbers, where two were dealt

@@ -1,7 +1,9 @@
 -- The rule of a gate, which holds between any two steps on its table. The table has one word and one slot.
---     Stands       what the word, the slot and the holder are while the machine is at home, and while it is out
---     Fits         what is true of one number of a view
---     Kept         the rule
+--     Terms       what the rule takes from the machine's type and from the opening of the gate
+--     Own         the numbers of a pass, each with the pass's own entries of it
+--     Stands      what the word, the slot and the holder are while the machine is at home and while it is out
+--     Fits        what is true of one number of a view
+--     Kept        the rule
 use Rattle.std.specs.Prelude.{◌≡◌, ◌⊎◌, ℕ, zero, suc, ◌+◌, ◌*◌, ◌≤◌, ◌==◌, List, [], ◌∷◌, length, Option, Some, slice_index, Contains}
 use Rattle.std.specs.List.{sum_by, count_by}
 use mathlib.Core.Option.{some}
@@ -11,7 +13,22 @@ use Rattle.lat_gate.specs.History.{of_number, BeginsWith}
 use Rattle.lat_gate.specs.declared.view.Hand.TheVariants.{Idle, Holds}
 use Rattle.lat_gate.specs.declared.view.View.{View}
 
--- the machine is at home, or the seat of this number holds the turn
+-- what the rule takes from the type of the machines and from the opening of the gate
+pub record Terms (M E : Type 0) : Type 0 where
+  -- a machine's history, an entry's number and a machine's setting
+  pub entries : M → List E
+  pub number : E → ℕ
+  pub setting_of : M → List ℕ
+  -- the setting, the history and the number of passes that the gate was opened with
+  pub setting : List ℕ
+  pub opening : List E
+  pub passes : ℕ
+
+-- numbers, each with a list of entries
+abbrev pub Own : Type 0 → Type 0
+Own E = List (ℕ × List E)
+
+-- the machine is at home, or the seat of this place holds the turn
 pub data Phase : Type 0 where
   free : Phase
   held : ℕ → Phase
@@ -20,43 +37,48 @@ pub data Phase : Type 0 where
 abbrev pub IsDealt : ℕ → ℕ → Type 0
 IsDealt passes n = (1 ≤ n) × (n ≤ passes)
 
--- as many numbers as said, from the first on, each with no entries of its own
-abbrev pub numbered : {E : Type 0} → ℕ → ℕ → List (ℕ × List E)
+-- as many numbers as said, from the first on, each with no entries
+abbrev pub numbered : {E : Type 0} → ℕ → ℕ → Own E
 numbered first zero = []
 numbered first (suc count) = (first, []) ∷ numbered (suc first) count
 
 module _ {E : Type 0} where
-  -- how many times the number n stands in these pairs
-  abbrev pub times : ℕ → List (ℕ × List E) → ℕ
-  times n own = count_by (λ (o : ℕ × List E). o.0 == n) own
-
-  -- the number stands in these pairs, with some list
-  abbrev pub Has : List (ℕ × List E) → ℕ → Type 0
+  -- the number stands here, with some list
+  abbrev pub Has : Own E → ℕ → Type 0
   Has own n = (mine : List E) × Contains own (n, mine)
 
   -- some number does
-  abbrev pub HasNumber : List (ℕ × List E) → Type 0
+  abbrev pub HasNumber : Own E → Type 0
   HasNumber own = (n : ℕ) × Has own n
 
-  -- how many times a number stands in the views
+  -- how many times the number n stands here
+  abbrev pub times : ℕ → Own E → ℕ
+  times n own = count_by (λ (o : ℕ × List E). o.0 == n) own
+
+  -- how many times it stands in the views
   abbrev pub holders : ℕ → List (View E) → ℕ
   holders n views = sum_by (λ (v : View E). times n v.own) views
 
-module _ {M E : Type 0} (entries : M → List E) (number : E → ℕ) (setting : M → List ℕ) (gate_setting : List ℕ) (opening : List E) (passes : ℕ) where
+  -- the seat of the place i has this view
+  abbrev pub Sits : List (View E) → ℕ → View E → Type 0
+  Sits views i v = get_elem? views i ≡ some v
+
+module _ {M E : Type 0} (gate : Terms M E) where
   -- the word is twice the number of entries, and one more while a seat holds the turn
   abbrev pub Stands : List E → Phase → State (Option M) (View E) → Type 0
   Stands now free s = (slice_index s.words 0 ≡ 2 * length now)
-      × ((x : M) × (get_elem? s.homes 0 ≡ some (some (Some x))) × (entries x ≡ now) × (setting x ≡ gate_setting))
+      × ((x : M) × (get_elem? s.homes 0 ≡ some (some (Some x)))
+      × (gate.entries x ≡ now) × (gate.setting_of x ≡ gate.setting))
   Stands now (held i) s = (slice_index s.words 0 ≡ 2 * length now + 1)
-      × ((v : View E) × (get_elem? s.views i ≡ some v) × (v.hand ≡ Holds now) × HasNumber v.own)
+      × ((v : View E) × Sits s.views i v × (v.hand ≡ Holds now) × HasNumber v.own)
 
-  -- the view was dealt this number, and mine are the entries of the number in the current list
+  -- the view was dealt the number n, and its own entries of it are those of the current list
   pub record Fits (now : List E) (v : View E) (n : ℕ) (mine : List E) : Type 0 where
-    pub setting_is : v.setting ≡ gate_setting
-    pub opening_is : v.opening ≡ opening
-    pub passes_are : v.passes ≡ passes
-    pub dealt : IsDealt passes n
-    pub own : of_number number n now ≡ mine
+    pub setting_is : v.setting ≡ gate.setting
+    pub opening_is : v.opening ≡ gate.opening
+    pub passes_are : v.passes ≡ gate.passes
+    pub dealt : IsDealt gate.passes n
+    pub own : of_number gate.number n now ≡ mine
 
   pub record Kept (s : State (Option M) (View E)) : Type 0 where
     -- the current list
@@ -64,11 +86,14 @@ module _ {M E : Type 0} (entries : M → List E) (number : E → ℕ) (setting :
     pub phase : Phase
     pub wide : length s.words ≡ 1
     pub stands : Stands now phase s
-    pub hands : (i : ℕ) (v : View E) → get_elem? s.views i ≡ some v → (v.hand ≡ Idle) ⊎ (phase ≡ held i)
-    pub told : (i : ℕ) (v : View E) → get_elem? s.views i ≡ some v
-        → BeginsWith now v.told × BeginsWith now v.noted
-    pub each : (i : ℕ) (v : View E) (n : ℕ) (mine : List E) → get_elem? s.views i ≡ some v
+    -- no seat but the holder has a turn
+    pub hands : (i : ℕ) (v : View E) → Sits s.views i v → (v.hand ≡ Idle) ⊎ (phase ≡ held i)
+    -- what a view was told is a beginning of the current list
+    pub told : (i : ℕ) (v : View E) → Sits s.views i v → BeginsWith now v.told × BeginsWith now v.noted
+    pub each : (i : ℕ) (v : View E) (n : ℕ) (mine : List E) → Sits s.views i v
         → Contains v.own (n, mine) → Fits now v n mine
     -- no number is in two views
     pub once : (n : ℕ) → holders n s.views ≤ 1
-    pub others : (n : ℕ) → ¬ IsDealt passes n → of_number number n now ≡ of_number number n opening
+    -- of a number that was not dealt the entries are those at the opening
+    pub others : (n : ℕ) → ¬ IsDealt gate.passes n
+        → of_number gate.number n now ≡ of_number gate.number n gate.opening

@@ -1,13 +1,16 @@
--- What the seat of a pass is between two calls, and that of a turn while it lasts.
---     Known         what a pass knows, as its callers see it
---     known_of      the same, from its seat
---     IsIdle        a seat that holds no turn and has a number
---     IsHeld        a seat that holds the turn of a gate, and has one number
+-- What a pass knows, and what its seat is between two calls and while a turn lasts.
+--     Known                    what a pass knows, as its callers see it
+--     known_of id v            the same, from the seat's table and view
+--     IsIdle, IsHeld           the seat of a pass, and of a turn
+--     dealt                    what a pass knows at the opening
+--     published, informed      after a turn with one entry more, and with none
+--     joined                   after another pass was joined to it
+--     AddsOne, HasEvery        what `publish` and `close` require
 use Rattle.std.specs.Prelude.{◌≡◌, ℕ, zero, ◌<◌, Bool, true, false, IsTrue, List, [], ◌∷◌, ◌++◌, map, Option, None, length}
 use Rattle.atomic_table.specs.Table.{Me}
 use Rattle.atomic_table.specs.Seated.{TableId}
 use Rattle.lat_gate.specs.History.{longer}
-use Rattle.lat_gate.specs.Rule.{Has, IsDealt}
+use Rattle.lat_gate.specs.Rule.{Own, Has, IsDealt}
 use Rattle.lat_gate.specs.declared.view.Hand.{Hand}
 use Rattle.lat_gate.specs.declared.view.Hand.TheVariants.{Idle, Holds}
 use Rattle.lat_gate.specs.declared.view.View.{View}
@@ -20,24 +23,21 @@ pub record Known (E : Type 0) : Type 0 where
   pub setting : List ℕ
   pub opening : List E
   pub passes : ℕ
-  -- the numbers of the pass, each with the pass's own entries of the number
-  pub own : List (ℕ × List E)
+  -- the numbers of the pass, each with the pass's own entries of it
+  pub own : Own E
   -- the history that the pass has seen
   pub seen : List E
-
-module _ {E : Type 0} where
-  abbrev pub known_of : TableId → View E → Known E
-  known_of id v = record { gate = id; setting = v.setting; opening = v.opening; passes = v.passes; own = v.own; seen = v.told }
 
 abbrev pub is_idle : {E : Type 0} → Hand E → Bool
 is_idle Idle = true
 is_idle (Holds log) = false
 
--- one slot was taken, the first, and it is empty
+-- the first slot is out, and it is empty
 abbrev pub is_empty_slot : {M : Type 0} → ℕ × Option M → Bool
 is_empty_slot (zero, None) = true
 is_empty_slot _ = false
 
+-- and no other is out
 abbrev pub has_empty_slot : {M : Type 0} → List (ℕ × Option M) → Bool
 has_empty_slot [] = false
 has_empty_slot (slot ∷ []) = is_empty_slot slot
@@ -52,13 +52,17 @@ abbrev pub IsHeld : {M E : Type 0} → Me (Option M) (View E) → Type 0
 IsHeld m = IsTrue (has_empty_slot m.1) × (is_idle m.0.hand ≡ false) × (length m.0.own ≡ 1)
 
 module _ {E : Type 0} where
-  -- what the pass knows that is dealt the number n
-  abbrev pub dealt : TableId → List ℕ → List E → ℕ → ℕ → Known E
-  dealt id set opening passes n = record {
-    gate = id; setting = set; opening = opening; passes = passes; own = (n, []) ∷ []; seen = opening }
+  abbrev pub known_of : TableId → View E → Known E
+  known_of id v = record {
+    gate = id; setting = v.setting; opening = v.opening; passes = v.passes; own = v.own; seen = v.told }
 
-  -- the history is the old one and one more entry, of a number that these pairs have
-  abbrev pub AddsOne : (E → ℕ) → List (ℕ × List E) → List E → List E → Type 0
+  -- what a pass knows that is dealt the number n
+  abbrev pub dealt : TableId → List ℕ → List E → ℕ → ℕ → Known E
+  dealt id setting opening passes n = record {
+    gate = id; setting = setting; opening = opening; passes = passes; own = (n, []) ∷ []; seen = opening }
+
+  -- the history is the old one and one more entry, of a number that the pass has
+  abbrev pub AddsOne : (E → ℕ) → Own E → List E → List E → Type 0
   AddsOne number own old new = (e : E) × (new ≡ old ++ e ∷ []) × Has own (number e)
 
   -- the pass has seen this history, and has the new entry among its own
@@ -69,7 +73,7 @@ module _ {E : Type 0} where
   abbrev pub informed : Known E → List E → Known E
   informed k log = record k { seen = log }
 
-  -- the pass has the numbers of both and their own lists, and has seen the longer of their histories
+  -- the pass has the numbers of both with their own lists, and has seen the longer of their histories
   abbrev pub joined : Known E → Known E → Known E
   joined a b = record a { own = a.own ++ b.own; seen = longer a.seen b.seen }
 

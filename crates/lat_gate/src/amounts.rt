@@ -7,6 +7,10 @@ use crate::machine::Machine;
 use std::alloc::Global;
 use std::marker::Model;
 
+mod sessions;
+
+pub use sessions::{add, add_beside, add_each, close_two, open_two};
+
 /// One amount.
 #[derive(Clone, Copy, PartialEq, Eq, Debug)]
 pub struct Amount {

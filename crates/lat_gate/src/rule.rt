@@ -14,9 +14,17 @@ pub struct Rule<M> {
 }
 
 impl<M: Machine> TableRule<Option<M>, View<M::Entry>, Opening<M>> for Rule<M> {
-    ghost holds = { λ key. Kept M.entries M.number M.setting (M.setting key.machine.value) (M.entries key.machine.value) key.passes };
+    ghost holds = { λ key. Kept record {
+        entries = M.entries;
+        number = M.number;
+        setting_of = M.setting;
+        setting = M.setting key.machine.value;
+        opening = M.entries key.machine.value;
+        passes = key.passes;
+    } };
 
-    ghost first = { λ key. first_view (M.setting key.machine.value) (M.entries key.machine.value) key.passes };
+    ghost first = { λ key. first_view
+        (M.setting key.machine.value) (M.entries key.machine.value) key.passes };
 }
 
 /// A load of the word.
@@ -37,7 +45,7 @@ impl<M: Machine> Play<Option<M>, View<M::Entry>> for Take {
 pub struct GiveBack;
 
 impl<M: Machine> Play<Option<M>, View<M::Entry>> for GiveBack {
-    ghost then = { gave_back M.entries M.number M.setting };
+    ghost then = { gave_back M.entries M.number };
 }
 
 /// A seat gives its first number to a new seat.

@@ -1,11 +1,11 @@
 use Rattle.std.proofs.Common.{rules, refl, arith, ap, ◌∙◌, length}
 use Rattle.lat_gate.specs.Seats.{is_idle}
-use Rattle.lat_gate.proofs.Holders.{first_number}
+use Rattle.lat_gate.proofs.Hands.{first_number}
 use Rattle.lat_gate.proofs.Meets.{splits}
 use Rattle.lat_gate.proofs.gate.Gate.next.Goals as goal
 
 pub split_seat-requires : goal.split_seat-requires
-split_seat-requires g c = (c.requires.gate, search rules, splits _ _ _ _ _ _ _ _ c.requires.idle.1)
+split_seat-requires g c = (c.requires.gate, search rules, splits _ _ _ c.requires.idle.1)
 
 pub invariant_of-result : goal.invariant_of-result
 invariant_of-result g c = record {

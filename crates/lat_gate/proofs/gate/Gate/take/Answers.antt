@@ -3,7 +3,7 @@ use Rattle.std.specs.Prelude.{Contains}
 use Rattle.lat_gate.specs.History.{of_number}
 use Rattle.lat_gate.specs.Rule.{HasNumber}
 use Rattle.lat_gate.specs.Steps.{held_log}
-use Rattle.lat_gate.proofs.Holders.{some_number}
+use Rattle.lat_gate.proofs.Hands.{some_number}
 use Rattle.lat_gate.proofs.gate.Gate.take.Goals as goal
 
 pub try_take-requires-clause-number : goal.try_take-requires-clause-number

@@ -1,6 +1,6 @@
 use Rattle.std.proofs.Common.{◌≡◌, ◌*◌, ◌∷◌, ℕ, [], Some, None, rules, refl, ap, sym, ◌∙◌}
 use Rattle.atomic_table.specs.Table.{rest}
-use Rattle.lat_gate.proofs.Holders.{empty_slot, held_hand, one_number}
+use Rattle.lat_gate.proofs.Hands.{empty_slot, held_hand, one_number}
 use Rattle.lat_gate.proofs.Keeps.{gives_back}
 use Rattle.lat_gate.proofs.Turns.{only_number}
 use Rattle.lat_gate.proofs.turn.Turn.settle.Goals as goal
@@ -15,8 +15,14 @@ swap-requires g c =
     (
       c.exchange.ensures.0 ∙ c.args.self.of_gate,
       search rules,
-      gives_back _ _ _ _ _ _ _ _ _ v x one.0 one.1.0 _ more.0 _ c.args.self.gate.now.sized.1
+      gives_back _ _ _ _ v x one.0 one.1.0 _ more.0 _ c.args.self.gate.now.sized.1
           (c.exchange.ensures.3 ∙ ap (λ l. (v, (0, Some x) ∷ rest l)) (empty_slot c.args.self.seat.me.1 held.0))
-          one.1.1 (held_hand v.hand held.1) more.1 (λ n ne. more.2 n (only_number v.own one.0 n one.1.0 one.1.1 ne)) c.requires.setting
+          record {
+            own = one.1.1;
+            holds = held_hand v.hand held.1;
+            longer = more.1;
+            only = λ n ne. more.2 n (only_number v.own one.0 n one.1.0 one.1.1 ne);
+            setting = c.requires.setting;
+          }
           (ap (λ (n : ℕ). 2 * n) (c.from-word.ensures ∙ c.count.ensures.counted)),
     )

@@ -6,7 +6,7 @@ ghost use Rattle.lat_gate.specs.Passes.{gate_id, known, IsPassOf};
 ghost use Rattle.lat_gate.specs.Sessions.{HasOnly, Adds, Sees, IsSamePass, tally};
 ghost use Rattle.lat_gate.specs.declared.amounts.Amount.{Amount};
 
-use crate::amounts::{Amount, Amounts};
+use super::{Amount, Amounts};
 use crate::faults::NoMemory;
 use crate::gate::Gate;
 use crate::pass::Pass;

@@ -1,6 +1,6 @@
 use Rattle.std.proofs.Common.{◌≡◌, ap, ◌∙◌}
 use Rattle.lat_gate.proofs.TwoPasses.{in_first, in_second, every_of_two}
-use Rattle.lat_gate.proofs.sessions.close_two.Goals as goal
+use Rattle.lat_gate.proofs.amounts.sessions.close_two.Goals as goal
 
 pub close-requires-clause-every : goal.close-requires-clause-every
 close-requires-clause-every c = let t = c.requires.numbers in let pass = c.join.ensures.pass in
