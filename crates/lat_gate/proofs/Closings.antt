@@ -41,8 +41,8 @@ module _ {M E : Type 0} (gate : Terms M E) where
       let s = final.0 in let r = final.1.0 in let at = final.1.1 in
       let mine = r.each id v last.number.0 last.number.1.0 at last.number.1.1 in
       elim r.phase as (λ p. Stands gate r.now p s
-          → (x : M) × (get_elem? slots 0 ≡ some (Some x)) × Closes v x) [
-        free ↦ λ st. let x = st.1.0 in let has = st.1.2 in (
+      → (x : M) × (get_elem? slots 0 ≡ some (Some x)) × Closes v x) [
+        | free ↦ λ st. let x = st.1.0 in let has = st.1.2 in (
           x,
           final.4 0 (Some x) st.1.1,
           record {
@@ -54,10 +54,10 @@ module _ {M E : Type 0} (gate : Terms M E) where
                 ∙ ap (of_number gate.number n) (sym mine.opening_is);
           },
         )
-      | held i ↦ λ st. let w = st.1.0 in let theirs = st.1.3 in let n = theirs.0 in
-          let f = r.each i w n theirs.1.0 st.1.1 theirs.1.1 in
-          let also = last.every n (subst (λ (k : ℕ). IsDealt k n) (sym mine.passes_are) f.dealt) in
-          absurd (alone gate s r i id w v n
+        | held i ↦ λ st. let w = st.1.0 in let theirs = st.1.3 in let n = theirs.0 in
+            let f = r.each i w n theirs.1.0 st.1.1 theirs.1.1 in
+            let also = last.every n (subst (λ (k : ℕ). IsDealt k n) (sym mine.passes_are) f.dealt) in
+            absurd (alone gate s r i id w v n
             (λ same. apart_seats s.views r.now i id w v st.1.1 at st.1.2 last.idle (sym same)) st.1.1 at theirs.1 also)
       ] r.stands
 

@@ -115,12 +115,12 @@ module _ {E : Type 0} where
   numbered_contains first (suc count) n mine c =
       let o : ℕ × List E = (n, mine) in let q : ℕ × List E = (first, []) in
       ⊎_elim
-          (λ (e : q ≡ o). let is : first ≡ n = ap (λ (r : ℕ × List E). r.0) e in
-            (omega arith, omega arith, sym (ap (λ (r : ℕ × List E). r.1) e)))
-          (λ (later : Contains (numbered (suc first) count) o).
-            let t = numbered_contains (suc first) count n mine later in let a = t.0 in let b = t.1 in
-            (omega arith, omega arith, t.2))
-          (contains_cases o q (numbered (suc first) count) c)
+      (λ (e : q ≡ o). let is : first ≡ n = ap (λ (r : ℕ × List E). r.0) e in
+      (omega arith, omega arith, sym (ap (λ (r : ℕ × List E). r.1) e)))
+      (λ (later : Contains (numbered (suc first) count) o).
+      let t = numbered_contains (suc first) count n mine later in let a = t.0 in let b = t.1 in
+      (omega arith, omega arith, t.2))
+      (contains_cases o q (numbered (suc first) count) c)
 
 module _ (E : Type 0) where
   -- each number stands once in `numbered`, and those below the first don't
@@ -132,9 +132,9 @@ module _ (E : Type 0) where
       let sum = times-cons {E = E} n o (numbered (suc first) count) in
       dite (ℕ_discrete first n)
       (λ (e : first ≡ n). let here = test_same n o e in let none = later.0 (omega arith) in
-        ((λ h. absurd (omega arith)), omega arith))
+      ((λ h. absurd (omega arith)), omega arith))
       (λ (ne : first ≢ n). let here = test_other n o ne in
-        ((λ h. let none = later.0 (omega arith) in omega arith), let once = later.1 in omega arith))
+      ((λ h. let none = later.0 (omega arith) in omega arith), let once = later.1 in omega arith))
 
   -- each number stands once in `numbered`
   pub numbered_once : (n first count : ℕ) → times n (numbered {E = E} first count) ≤ 1

@@ -1,9 +1,8 @@
 -- The steps on the word of a gate keep its rule.
-use Rattle.std.proofs.Common.{◌≡◌, ◌≢◌, ◌⊎◌, ℕ, ◌+◌, ◌*◌, ◌%◌, ◌≤◌, ◌<◌, eqb, List, [], ◌∷◌, ◌++◌, map, drop, length, get_or, set, sym, refl, ap, ◌∙◌, subst, inl, inr, ⊎_elim, arith, length-set, get_or-set_same, append-nil, Option, Some}
+use Rattle.std.proofs.Common.{◌≡◌, ◌≢◌, ◌⊎◌, ℕ, ◌+◌, ◌*◌, ◌%◌, ◌≤◌, ◌<◌, eqb, List, [], ◌∷◌, ◌++◌, drop, length, get_or, set, sym, refl, ap, ◌∙◌, subst, inl, inr, ⊎_elim, arith, length-set, get_or-set_same, append-nil, Option, Some}
 use Rattle.std.specs.Prelude.{Contains}
 use mathlib.Core.Option.{none, some, some-injective}
 use mathlib.Core.Option as maybe
-use lib.ListN.{get_elem?}
 use lib.Seq.{set-get_or}
 use prog.Atomic.{either}
 use Rattle.atomic_table.specs.Table.{State, Me, Act, keeps, takes, gives, step, stepped, carried_after, Valid, Allows}
@@ -59,9 +58,9 @@ module _ {M E : Type 0} (gate : Terms M E) where
       → Kept gate record { words = ws; homes = hs; views = set s.views id w }
   changed s r id v w now more d ws hs phase wide stands hands =
       let kept : (n : ℕ) → ¬ Has v.own n → of_number gate.number n now ≡ of_number gate.number n r.now =
-          λ n lacks. of_number_same gate.number n now r.now more d.longer (d.only n lacks) in
+      λ n lacks. of_number_same gate.number n now r.now more d.longer (d.only n lacks) in
       let still : (front : List E) → BeginsWith r.now front → BeginsWith now front = λ front b.
-          subst (λ (l : List E). BeginsWith l front) (sym d.longer) (begins_still r.now front more b) in
+      subst (λ (l : List E). BeginsWith l front) (sym d.longer) (begins_still r.now front more b) in
       record {
         now = now;
         phase = phase;
@@ -70,21 +69,21 @@ module _ {M E : Type 0} (gate : Terms M E) where
         hands = hands;
         told = λ i u e. ⊎_elim
             (λ (t : (i ≡ id) × (w ≡ u)).
-              subst (λ (x : View E). BeginsWith now x.told × BeginsWith now x.noted) t.1 d.told)
+            subst (λ (x : View E). BeginsWith now x.told × BeginsWith now x.noted) t.1 d.told)
             (λ (t : (i ≢ id) × Sits s.views i u). let b = r.told i u t.1 in
-              (still u.told b.0, still u.noted b.1))
+            (still u.told b.0, still u.noted b.1))
             (at_set s.views id i w u e);
         each = λ i u n mine e c. ⊎_elim
             (λ (t : (i ≡ id) × (w ≡ u)).
-              subst (λ (x : View E). Contains x.own (n, mine) → Fits gate now x n mine) t.1 (d.fits n mine) c)
+            subst (λ (x : View E). Contains x.own (n, mine) → Fits gate now x n mine) t.1 (d.fits n mine) c)
             (λ (t : (i ≢ id) × Sits s.views i u). let f = r.each i u n mine t.1 c in
-              record {
-                setting_is = f.setting_is;
-                opening_is = f.opening_is;
-                passes_are = f.passes_are;
-                dealt = f.dealt;
-                own = kept n (λ has. alone s r id i v u n t.0 d.at t.1 has (mine, c)) ∙ f.own;
-              })
+            record {
+              setting_is = f.setting_is;
+              opening_is = f.opening_is;
+              passes_are = f.passes_are;
+              dealt = f.dealt;
+              own = kept n (λ has. alone s r id i v u n t.0 d.at t.1 has (mine, c)) ∙ f.own;
+            })
             (at_set s.views id i w u e);
         once = λ n. omega (arith, r.once n, holders_set n s.views id v w d.at, d.same n);
         others = λ n out. kept n (λ has. out (r.each id v n has.0 d.at has.1).dealt) ∙ r.others n out;
@@ -95,9 +94,9 @@ module _ {M E : Type 0} (gate : Terms M E) where
       → Sits s.views id v → Kept gate (stepped s 0 (get_or s.words 0 0) id slots v keeps)
   unmoved s r id slots v at =
       subst (λ (ws : List ℕ). Kept gate record { words = ws; homes = s.homes; views = set s.views id v })
-          (sym (set-get_or s.words 0 0))
+      (sym (set-get_or s.words 0 0))
       (subst (λ (vs : List (View E)). Kept gate record { words = s.words; homes = s.homes; views = vs })
-          (sym (set_again s.views id v at)) r)
+      (sym (set_again s.views id v at)) r)
 
   -- the word is at least twice the length of a beginning of the current list
   word_bound : (s : St M E) (r : Kept gate s) (front : List E) → BeginsWith r.now front
@@ -105,8 +104,8 @@ module _ {M E : Type 0} (gate : Terms M E) where
   word_bound s r front b =
       let short = begins_length r.now front b in
       elim r.phase as (λ p. Stands gate r.now p s → 2 * length front ≤ get_or s.words 0 0) [
-        free ↦ λ st. let is = st.0 in omega arith
-      | held i ↦ λ st. let is = st.0 in omega arith
+        | free ↦ λ st. let is = st.0 in omega arith
+        | held i ↦ λ st. let is = st.0 in omega arith
       ] r.stands
 
   -- a load keeps the rule
@@ -141,10 +140,10 @@ module _ {M E : Type 0} (gate : Terms M E) where
   taken slots s r id v old new at number is next idle st =
       let x = st.1.0 in let has = st.1.2 in let w : View E = holding v (gate.entries x) in
       let own : (n : ℕ) (mine : List E) → Contains v.own (n, mine) → Fits gate r.now v n mine =
-          λ n mine c. r.each id v n mine at c in
+      λ n mine c. r.each id v n mine at c in
       let long : 0 < length s.words = let one = r.wide in omega arith in
       let word : get_or (set s.words 0 new) 0 0 ≡ 2 * length r.now + 1 =
-          get_or-set_same s.words 0 new 0 long ∙ (let even = st.0 in omega arith) in
+      get_or-set_same s.words 0 new 0 long ∙ (let even = st.0 in omega arith) in
       let told = r.told id v at in
       let change : Change s r id v w r.now [] = record {
         at = at;
@@ -161,14 +160,17 @@ module _ {M E : Type 0} (gate : Terms M E) where
             (length-set s.words 0 new ∙ r.wide)
             (word, (w, get_here s.views id v w at, ap Holds has, number))
             (λ i u e. ⊎_elim (λ (t : (i ≡ id) × (w ≡ u)). inr (ap held (sym t.0)))
-                (λ (t : (i ≢ id) × Sits s.views i u). inl (idle i u t.1)) (at_set s.views id i w u e)),
-        ((λ _. (
-          x,
-          refl,
-          st.1.3 ∙ sym (own number.0 number.1.0 number.1.1).setting_is,
-          subst (λ (l : List E). BeginsWith l v.told) (sym has) told.0,
-          λ n mine c. ap (of_number gate.number n) has ∙ (own n mine c).own,
-        )), λ miss. absurd (miss is)),
+            (λ (t : (i ≢ id) × Sits s.views i u). inl (idle i u t.1)) (at_set s.views id i w u e)),
+        (
+          (λ _. (
+            x,
+            refl,
+            st.1.3 ∙ sym (own number.0 number.1.0 number.1.1).setting_is,
+            subst (λ (l : List E). BeginsWith l v.told) (sym has) told.0,
+            λ n mine c. ap (of_number gate.number n) has ∙ (own n mine c).own,
+          )),
+          λ miss. absurd (miss is),
+        ),
       )
 
   -- a compare-exchange from an even word to the next keeps the rule, and takes the machine
@@ -177,26 +179,28 @@ module _ {M E : Type 0} (gate : Terms M E) where
       → Allows (Kept gate) slots id me 0 (λ y. either (eqb y old) new y) (tries slots old new me)
   takes_turn slots id me v old new me_is number even next =
       subst (λ (m : Seated M E). Allows (Kept gate) slots id m 0 (λ y. either (eqb y old) new y)
-          (tries slots old new m)) (sym me_is)
+      (tries slots old new m)) (sym me_is)
       (λ s r wide at small. let Taken = Goes s id (v, []) (tries slots old new (v, [])) in
-        exchanged (get_or s.words 0 0) old new Taken
-        (λ hit. elim r.phase as (λ p. Stands gate r.now p s
-            → ((i : ℕ) (u : View E) → Sits s.views i u → (u.hand ≡ Idle) ⊎ (p ≡ held i)) → Taken new) [
-          free ↦ λ st hands. taken slots s r id v old new at number hit next
-              (λ i u e. ⊎_elim (λ (t : u.hand ≡ Idle). t) (λ (t : free ≡ held i). absurd cc) (hands i u e)) st
+      exchanged (get_or s.words 0 0) old new Taken
+      (λ hit. elim r.phase as (λ p. Stands gate r.now p s
+      → ((i : ℕ) (u : View E) → Sits s.views i u → (u.hand ≡ Idle) ⊎ (p ≡ held i)) → Taken new) [
+        | free ↦ λ st hands. taken slots s r id v old new at number hit next
+            (λ i u e. ⊎_elim (λ (t : u.hand ≡ Idle). t) (λ (t : free ≡ held i). absurd cc) (hands i u e)) st
         | held i ↦ λ st hands. let odd = st.0 in absurd (omega arith)
-        ] r.stands r.hands)
-        (λ miss. (v, keeps, tt, unmoved s r id [] v at, ((λ hit. absurd (miss hit)), λ _. refl))))
+      ] r.stands r.hands)
+      (λ miss. (v, keeps, tt, unmoved s r id [] v at, ((λ hit. absurd (miss hit)), λ _. refl))))
 
   -- the seat that holds a history has the turn, and holds the current list
   its_turn : (s : St M E) (r : Kept gate s) (id : ℕ) (v : View E) (log : List E) → Sits s.views id v
       → v.hand ≡ Holds log → (r.phase ≡ held id) × (r.now ≡ log)
   its_turn s r id v log at holds = ⊎_elim
       (λ (t : v.hand ≡ Idle). absurd cc)
-      (λ (t : r.phase ≡ held id). (t,
+      (λ (t : r.phase ≡ held id). (
+        t,
         let st = subst (λ (p : Phase). Stands gate r.now p s) t r.stands in
-        let same : st.1.0 ≡ v = some-injective st.1.0 v (sym st.1.1 ∙ at) in
-        let hand : st.1.0.hand ≡ Holds r.now = st.1.2 in cc))
+            let same : st.1.0 ≡ v = some-injective st.1.0 v (sym st.1.1 ∙ at) in
+            let hand : st.1.0.hand ≡ Holds r.now = st.1.2 in cc,
+      ))
       (r.hands id v at)
 
   -- What the holder of the turn gives back: the machine x, whose history is the one that it was taken with and
@@ -240,16 +244,21 @@ module _ {M E : Type 0} (gate : Terms M E) where
         ∙ ap (λ (l : List E). mine ++ of_number gate.number k l) (sym newer_is)
 
     has_number : (n : ℕ) → n ≡ k → Has v.own n
-    has_number n e = (mine, subst (λ (o : Own E). Contains o (n, mine)) (sym d.own)
-        (subst (λ (j : ℕ). Contains only_own (j, mine)) (sym e) (contains_head (k, mine) [])))
+    has_number n e = (
+      mine,
+      subst (λ (o : Own E). Contains o (n, mine)) (sym d.own)
+          (subst (λ (j : ℕ). Contains only_own (j, mine)) (sym e) (contains_head (k, mine) [])),
+    )
 
     settles : Change s r id v w now more
     settles = record {
       at = at;
       longer = longer_now;
       only = λ n lacks. d.only n (λ e. lacks (has_number n e));
-      told = (begins_with_itself now,
-        subst (λ (l : List E). BeginsWith l v.noted) (sym longer_now) (begins_still r.now v.noted more (r.told id v at).1));
+      told = (
+        begins_with_itself now,
+        subst (λ (l : List E). BeginsWith l v.noted) (sym longer_now) (begins_still r.now v.noted more (r.told id v at).1),
+      );
       fits = λ n m c.
           let is = contains_only (n, m) (k, new_own) (subst (λ (l : Own E). Contains l (n, m)) own_is c) in
           let same : k ≡ n = ap (λ (o : ℕ × List E). o.0) is in
@@ -268,11 +277,11 @@ module _ {M E : Type 0} (gate : Terms M E) where
     all_idle i u e = ⊎_elim
         (λ (t : (i ≡ id) × (w ≡ u)). inl (ap (λ (z : View E). z.hand) (sym t.1)))
         (λ (t : (i ≢ id) × Sits s.views i u). ⊎_elim
-          (λ (h : u.hand ≡ Idle). inl h)
-          (λ (h : r.phase ≡ held i).
-            let is : held i ≡ held id = sym h ∙ (its_turn s r id v log at d.holds).0 in
-            let same : i ≡ id = cc in absurd (t.0 same))
-          (r.hands i u t.1))
+        (λ (h : u.hand ≡ Idle). inl h)
+        (λ (h : r.phase ≡ held i).
+        let is : held i ≡ held id = sym h ∙ (its_turn s r id v log at d.holds).0 in
+        let same : i ≡ id = cc in absurd (t.0 same))
+        (r.hands i u t.1))
         (at_set s.views id i w u e)
 
   -- a swap to twice the number of entries keeps the rule, and gives the machine back
@@ -281,19 +290,20 @@ module _ {M E : Type 0} (gate : Terms M E) where
       → Allows (Kept gate) slots id me 0 (λ _. new) (gave_back gate.entries gate.number (step slots 0 new 0 none) me)
   gives_back slots id me v x k mine log more new one_slot me_is d word =
       subst (λ (m : Seated M E). Allows (Kept gate) slots id m 0 (λ _. new)
-          (gave_back gate.entries gate.number (step slots 0 new 0 none) m)) (sym me_is)
+      (gave_back gate.entries gate.number (step slots 0 new 0 none) m)) (sym me_is)
       (λ s r wide at small.
-        let w : View E = settled gate.number v (gate.entries x) in
-        let long : 0 < length s.words = let one = r.wide in omega arith in
-        let change : Change s r id v w (gate.entries x) more = settles s r id v x k mine log more at d in
-        let first : Fits gate r.now v k mine = first s r id v x k mine log more at d in (
-          w,
-          gives,
-          tt,
-          changed s r id v w (gate.entries x) more change (set s.words 0 new) (set s.homes 0 (some (Some x))) free
-              (length-set s.words 0 new ∙ r.wide)
-              (get_or-set_same s.words 0 new 0 long ∙ word,
-                (x, set_here s.homes 0 (some (Some x)) (omega arith), refl, d.setting ∙ first.setting_is))
-              (all_idle s r id v x k mine log more at d),
-          refl,
-        ))
+      let w : View E = settled gate.number v (gate.entries x) in
+      let long : 0 < length s.words = let one = r.wide in omega arith in
+      let change : Change s r id v w (gate.entries x) more = settles s r id v x k mine log more at d in
+      let first : Fits gate r.now v k mine = first s r id v x k mine log more at d in (
+        w,
+        gives,
+        tt,
+        changed s r id v w (gate.entries x) more change (set s.words 0 new) (set s.homes 0 (some (Some x))) free
+            (length-set s.words 0 new ∙ r.wide) (
+              get_or-set_same s.words 0 new 0 long ∙ word,
+              (x, set_here s.homes 0 (some (Some x)) (omega arith), refl, d.setting ∙ first.setting_is),
+            )
+            (all_idle s r id v x k mine log more at d),
+        refl,
+      ))

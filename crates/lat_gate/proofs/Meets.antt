@@ -78,7 +78,7 @@ module _ {M E : Type 0} (gate : Terms M E) where
         wide = r.wide;
         stands = still_stands s (first ++ right ∷ []) r.now
             (λ i u e holds. at_longer first (right ∷ []) i u
-              (set_else s.views id i left (apart_seats s.views r.now i id u v e at holds idle) ∙ e))
+            (set_else s.views id i left (apart_seats s.views r.now i id u v e at holds idle) ∙ e))
             r.phase r.stands;
         hands = after_cut (λ i u. (u.hand ≡ Idle) ⊎ (r.phase ≡ held i)) s.views r.hands id left right
             (inl idle) (λ i. inl idle);
@@ -89,8 +89,13 @@ module _ {M E : Type 0} (gate : Terms M E) where
             (λ c. refit gate r.now v left n mine refl refl refl (r.each id v n mine at (in_others v.own (n, mine) c)))
             (λ i c. refit gate r.now v right n mine refl refl refl (r.each id v n mine at (in_first v.own (n, mine) c)))
             i u e;
-        once = λ n. omega (arith, r.once n, holders_push n first right, holders_set n s.views id v left at,
-          times_cut n v.own);
+        once = λ n. omega (
+          arith,
+          r.once n,
+          holders_push n first right,
+          holders_set n s.views id v left at,
+          times_cut n v.own,
+        );
         others = r.others;
       }
 
@@ -108,27 +113,33 @@ module _ {M E : Type 0} (gate : Terms M E) where
         wide = r.wide;
         stands = still_stands s (set first other spent) r.now
             (λ i u e holds.
-              set_else first other i spent (apart_seats s.views r.now i other u w e at_other holds idle_too)
-              ∙ set_else s.views id i b (apart_seats s.views r.now i id u v e at holds idle) ∙ e)
+            set_else first other i spent (apart_seats s.views r.now i other u w e at_other holds idle_too)
+            ∙ set_else s.views id i b (apart_seats s.views r.now i id u v e at holds idle) ∙ e)
             r.phase r.stands;
         hands = after_join (λ i u. (u.hand ≡ Idle) ⊎ (r.phase ≡ held i)) s.views r.hands id other b spent
             (inl idle) (λ i. inl refl);
-        told = after_join (λ i u. BeginsWith r.now u.told × BeginsWith r.now u.noted) s.views r.told id other b spent
-            (of_longer (BeginsWith r.now) v.told w.told told_v.0 told_w.0,
-              of_shorter (BeginsWith r.now) v.told w.told told_v.0 told_w.0)
+        told = after_join (λ i u. BeginsWith r.now u.told × BeginsWith r.now u.noted) s.views r.told id other b spent (
+          of_longer (BeginsWith r.now) v.told w.told told_v.0 told_w.0,
+          of_shorter (BeginsWith r.now) v.told w.told told_v.0 told_w.0,
+        )
             (λ i. ((r.now, refl), (r.now, refl)));
         each = λ i u n own e. after_join (λ i u. Contains u.own (n, own) → Fits gate r.now u n own) s.views
             (λ j x d. r.each j x n own d) id other b spent
             (λ c. ⊎_elim
-              (λ (d : Contains v.own (n, own)). refit gate r.now v b n own refl refl refl (r.each id v n own at d))
-              (λ (d : Contains w.own (n, own)). let f = r.each other w n own at_other d in
-                refit gate r.now w b n own (mine.setting_is ∙ sym f.setting_is) (mine.opening_is ∙ sym f.opening_is)
-                (mine.passes_are ∙ sym f.passes_are) f)
-              (Contains-append_cases v.own w.own (n, own) c))
+            (λ (d : Contains v.own (n, own)). refit gate r.now v b n own refl refl refl (r.each id v n own at d))
+            (λ (d : Contains w.own (n, own)). let f = r.each other w n own at_other d in
+            refit gate r.now w b n own (mine.setting_is ∙ sym f.setting_is) (mine.opening_is ∙ sym f.opening_is)
+            (mine.passes_are ∙ sym f.passes_are) f)
+            (Contains-append_cases v.own w.own (n, own) c))
             (λ i c. absurd (contains_none (n, own) c))
             i u e;
-        once = λ n. omega (arith, r.once n, holders_set n s.views id v b at,
-          holders_set n first other w spent at_changed, times-append n v.own w.own);
+        once = λ n. omega (
+          arith,
+          r.once n,
+          holders_set n s.views id v b at,
+          holders_set n first other w spent at_changed,
+          times-append n v.own w.own,
+        );
         others = r.others;
       }
 
@@ -140,27 +151,29 @@ module _ {M E : Type 0} (gate : Terms M E) where
   opens words slots x words_are slots_are has fixed unused =
       let v : View E = first_view gate.setting gate.opening gate.passes in
       let only : (i : ℕ) (u : View E) → Sits (v ∷ []) i u → v ≡ u = λ i u e. ⊎_elim
-          (λ (t : Sits [] i u). absurd (some-ne-none u (sym t))) (λ (t : v ≡ u). t) (at_snoc [] v u i e) in
+      (λ (t : Sits [] i u). absurd (some-ne-none u (sym t))) (λ (t : v ≡ u). t) (at_snoc [] v u i e) in
       record {
         now = gate.opening;
         phase = free;
         wide = ap length words_are;
-        stands = (ap (λ (l : List ℕ). get_or l 0 0) words_are,
-          (x, ap (λ (l : List (Option M)). get_elem? (map some l) 0) slots_are, has, fixed));
+        stands = (
+          ap (λ (l : List ℕ). get_or l 0 0) words_are,
+          (x, ap (λ (l : List (Option M)). get_elem? (map some l) 0) slots_are, has, fixed),
+        );
         hands = λ i u e. inl (ap (λ (z : View E). z.hand) (sym (only i u e)));
         told = λ i u e. subst (λ (z : View E). BeginsWith gate.opening z.told × BeginsWith gate.opening z.noted)
             (only i u e) (begins_with_itself gate.opening, begins_with_itself gate.opening);
         each = λ i u n mine e.
             subst (λ (z : View E). Contains z.own (n, mine) → Fits gate gate.opening z n mine) (only i u e)
             (λ c. let t = numbered_contains 1 gate.passes n mine c in
-              let dealt : IsDealt gate.passes n = (t.0, let h = t.1 in omega arith) in
-              record {
-                setting_is = refl;
-                opening_is = refl;
-                passes_are = refl;
-                dealt = dealt;
-                own = unused n dealt ∙ sym t.2;
-              });
+            let dealt : IsDealt gate.passes n = (t.0, let h = t.1 in omega arith) in
+            record {
+              setting_is = refl;
+              opening_is = refl;
+              passes_are = refl;
+              dealt = dealt;
+              own = unused n dealt ∙ sym t.2;
+            });
         once = λ n. let one : times n (numbered {E = E} 1 gate.passes) ≤ 1 = numbered_once E n 1 gate.passes in
             omega arith;
         others = λ n out. refl;

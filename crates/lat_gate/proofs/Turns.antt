@@ -25,7 +25,7 @@ module _ {E : Type 0} where
   pub last_entry : (log more : List E) (d e : E) → more ≡ log ++ d ∷ [] → more ≡ log ++ e ∷ [] → d ≡ e
   last_entry log more d e p q =
       let ends : d ∷ [] ≡ e ∷ [] =
-          sym (drop_front log (d ∷ [])) ∙ ap (drop (length log)) (sym p ∙ q) ∙ drop_front log (e ∷ []) in cc
+      sym (drop_front log (d ∷ [])) ∙ ap (drop (length log)) (sym p ∙ q) ∙ drop_front log (e ∷ []) in cc
 
   module _ (number : E → ℕ) where
     -- an entry of a number that a pass has is of no number that the pass lacks
@@ -47,13 +47,13 @@ module _ {E : Type 0} where
         let o = one_number v.own one in let n = o.0 in let mine = o.1.0 in
         let is : v.own ≡ (n, mine) ∷ [] = o.1.1 in
         let more : newer v log ≡ e ∷ [] =
-            ap (drop (length (held_log v.hand))) longer ∙ drop_front (held_log v.hand) (e ∷ []) in
+        ap (drop (length (held_log v.hand))) longer ∙ drop_front (held_log v.hand) (e ∷ []) in
         let gained : of_number number n (newer v log) ≡ e ∷ [] =
-            ap (of_number number n) more ∙ of_number_self n e (its_number v.own n (number e) mine is has) in
+        ap (of_number number n) more ∙ of_number_self n e (its_number v.own n (number e) mine is has) in
         let left : grown number (newer v log) v.own ≡ (n, mine ++ e ∷ []) ∷ [] =
-            ap (grown number (newer v log)) is ∙ ap (λ (l : List E). (n, mine ++ l) ∷ []) gained in
+        ap (grown number (newer v log)) is ∙ ap (λ (l : List E). (n, mine ++ l) ∷ []) gained in
         let right : map (λ (p : ℕ × List E). (p.0, p.1 ++ e ∷ [])) v.own ≡ (n, mine ++ e ∷ []) ∷ [] =
-            ap (map (λ (p : ℕ × List E). (p.0, p.1 ++ e ∷ []))) is in
+        ap (map (λ (p : ℕ × List E). (p.0, p.1 ++ e ∷ []))) is in
         ap (with_own id v log) (left ∙ sym right)
 
     -- with no entry more it has seen the history
@@ -63,8 +63,8 @@ module _ {E : Type 0} where
         let o = one_number v.own one in let n = o.0 in let mine = o.1.0 in
         let is : v.own ≡ (n, mine) ∷ [] = o.1.1 in
         let none : newer v log ≡ [] = ap (drop (length (held_log v.hand))) (same ∙ sym (append-nil (held_log v.hand)))
-            ∙ drop_front (held_log v.hand) [] in
+        ∙ drop_front (held_log v.hand) [] in
         let left : grown number (newer v log) v.own ≡ v.own = ap (grown number (newer v log)) is
-            ∙ ap (λ (l : List E). (n, mine ++ of_number number n l) ∷ []) none
-            ∙ ap (λ (l : List E). (n, l) ∷ []) (append-nil mine) ∙ sym is in
+        ∙ ap (λ (l : List E). (n, mine ++ of_number number n l) ∷ []) none
+        ∙ ap (λ (l : List E). (n, l) ∷ []) (append-nil mine) ∙ sym is in
         ap (with_own id v log) left ∙ ap (λ (l : List E). with_own id v l v.own) same

@@ -54,12 +54,24 @@ IsHeld m = IsTrue (has_empty_slot m.1) × (is_idle m.0.hand ≡ false) × (lengt
 module _ {E : Type 0} where
   abbrev pub known_of : TableId → View E → Known E
   known_of id v = record {
-    gate = id; setting = v.setting; opening = v.opening; passes = v.passes; own = v.own; seen = v.told }
+    gate = id;
+    setting = v.setting;
+    opening = v.opening;
+    passes = v.passes;
+    own = v.own;
+    seen = v.told;
+  }
 
   -- what a pass knows that is dealt the number n
   abbrev pub dealt : TableId → List ℕ → List E → ℕ → ℕ → Known E
   dealt id setting opening passes n = record {
-    gate = id; setting = setting; opening = opening; passes = passes; own = (n, []) ∷ []; seen = opening }
+    gate = id;
+    setting = setting;
+    opening = opening;
+    passes = passes;
+    own = (n, []) ∷ [];
+    seen = opening;
+  }
 
   -- the history is the old one and one more entry, of a number that the pass has
   abbrev pub AddsOne : (E → ℕ) → Own E → List E → List E → Type 0

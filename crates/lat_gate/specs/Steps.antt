@@ -5,7 +5,7 @@
 use Rattle.std.specs.Prelude.{◌≡◌, ◌≢◌, ℕ, ◌*◌, ◌≤◌, List, [], ◌∷◌, ◌++◌, map, take, drop, length, Option, Some, None, Contains}
 use Rattle.atomic_table.specs.Table.{Me, Step, rest}
 use Rattle.lat_gate.specs.History.{of_number, BeginsWith, longer, shorter}
-use Rattle.lat_gate.specs.Rule.{Terms, Own, numbered}
+use Rattle.lat_gate.specs.Rule.{Own, numbered}
 use Rattle.lat_gate.specs.declared.view.Hand.{Hand}
 use Rattle.lat_gate.specs.declared.view.Hand.TheVariants.{Idle, Holds}
 use Rattle.lat_gate.specs.declared.view.View.{View}
@@ -14,7 +14,14 @@ module _ {E : Type 0} where
   -- an idle seat with these numbers that was told the history at the opening
   abbrev pub fresh : List ℕ → List E → ℕ → Own E → View E
   fresh setting opening passes own = record {
-    setting = setting; opening = opening; passes = passes; own = own; told = opening; noted = opening; hand = Idle }
+    setting = setting;
+    opening = opening;
+    passes = passes;
+    own = own;
+    told = opening;
+    noted = opening;
+    hand = Idle;
+  }
 
   -- the view of the first seat, which has every number
   abbrev pub first_view : List ℕ → List E → ℕ → View E

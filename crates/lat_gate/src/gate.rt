@@ -11,6 +11,8 @@ mod join;
 mod open;
 mod take;
 
+pub use open::MAX_PASSES;
+
 /// A machine behind a lock, and with it a count: the number of entries of the machine's history.
 #[derive(Drop)]
 pub struct Gate<M: Machine> {

@@ -13,7 +13,7 @@ mod turn;
 mod view;
 
 pub use faults::NoMemory;
-pub use gate::Gate;
+pub use gate::{Gate, MAX_PASSES};
 pub use machine::Machine;
 pub use pass::Pass;
 pub use turn::Turn;

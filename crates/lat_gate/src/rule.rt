@@ -15,12 +15,12 @@ pub struct Rule<M> {
 
 impl<M: Machine> TableRule<Option<M>, View<M::Entry>, Opening<M>> for Rule<M> {
     ghost holds = { λ key. Kept record {
-        entries = M.entries;
-        number = M.number;
-        setting_of = M.setting;
-        setting = M.setting key.machine.value;
-        opening = M.entries key.machine.value;
-        passes = key.passes;
+      entries = M.entries;
+      number = M.number;
+      setting_of = M.setting;
+      setting = M.setting key.machine.value;
+      opening = M.entries key.machine.value;
+      passes = key.passes;
     } };
 
     ghost first = { λ key. first_view

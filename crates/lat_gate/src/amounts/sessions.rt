@@ -20,8 +20,12 @@ pub fn open_two(alloc: Global) -> Result<(Gate<Amounts>, Pass<Amounts>, Pass<Amo
     ensures second { IfOk result (λ made. known made.2 ≡ dealt (gate_id made.0) [] [] 2 2) }
 {
     let (gate, mut passes) = Gate::open(alloc, Amounts::new(alloc), 2)?;
-    let Some(second) = passes.pop() else { unreachable!() };
-    let Some(first) = passes.pop() else { unreachable!() };
+    let Some(second) = passes.pop() else {
+        unreachable!()
+    };
+    let Some(first) = passes.pop() else {
+        unreachable!()
+    };
     Ok((gate, first, second))
 }
 

@@ -17,16 +17,15 @@ use atomic_table::{Refused, Seat, Table};
 use std::alloc::Global;
 use std::snapshot::Snapshot;
 
+/// The largest number of passes.
+pub const MAX_PASSES: u32 = 16;
+
 impl<M: Machine> Gate<M> {
     /// Opens a gate over `machine`, with `passes` passes, which are numbered from 1 on.
     ///
-    /// Requires that `passes` is from 1 to 16, and that the machine has no entry of these numbers.
-    pub fn open(
-        alloc: Global,
-        machine: M,
-        passes: u32,
-    ) -> Result<(Gate<M>, Vec<Pass<M>>), NoMemory>
-        requires passes { (1 ≤ passes) × (passes ≤ 16) }
+    /// Requires that `passes` is from 1 to [`MAX_PASSES`], and that the machine has no entry of these numbers.
+    pub fn open(alloc: Global, machine: M, passes: u32) -> Result<(Gate<M>, Vec<Pass<M>>), NoMemory>
+        requires passes { (1 ≤ passes) × (passes ≤ MAX_PASSES) }
         requires unused { (n : ℕ) → IsDealt passes n → of_number M.number n (M.entries machine) ≡ [] }
         ensures count { IfOk result (λ made. vec_len made.1 ≡ passes) }
         ensures dealt { IfOk result (λ made. (i : ℕ) → i < passes →

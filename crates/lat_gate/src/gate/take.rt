@@ -66,7 +66,10 @@ impl<M: Machine> Gate<M> {
         ensures taken { result ≡ true → Took M.entries M.number M.setting seat.old.me seat.new.me }
         ensures missed { result ≡ false → seat.new.me ≡ seat.old.me }
     {
-        self.table.shared.compare_exchange::<Take>(seat, 0, word, word + 1) == word
+        self.table
+            .shared
+            .compare_exchange::<Take>(seat, 0, word, word + 1)
+            == word
     }
 
     // Takes the machine out of the slot.

@@ -1,4 +1,4 @@
-use Rattle.std.proofs.Common.{◌≡◌, ap, ◌∙◌}
+use Rattle.std.proofs.Common.{ap, ◌∙◌}
 use Rattle.lat_gate.proofs.TwoPasses.{in_first, in_second, every_of_two}
 use Rattle.lat_gate.proofs.amounts.sessions.close_two.Goals as goal
 

@@ -1,4 +1,4 @@
-use Rattle.std.proofs.Common.{rules, ◌≡◌, ℕ, ◌+◌, ◌-◌, ◌<◌, [], refl, ap, sym, ◌∙◌, subst, arith, slice_get, IfSome, length}
+use Rattle.std.proofs.Common.{◌≡◌, ◌+◌, [], refl, ap, sym, ◌∙◌, arith, length}
 use Rattle.lat_gate.specs.Steps.{others, first_alone}
 use Rattle.lat_gate.specs.Seats.{known_of, dealt}
 use Rattle.lat_gate.specs.Passes.{known}
@@ -18,8 +18,7 @@ next-requires-clause-idle g c = let at = c.loop.invariant.1 in let v = c.args.fi
 pub loop-preserved : goal.loop-preserved
 loop-preserved g c =
     let at = c.loop.invariant.1 in let v = c.args.first.me.0 in let k = c.loop.counter in let h = c.loop-test.true in
-    let long : length c.loop.dealt.items ≡ k = let n = c.loop.invariant.2 in omega arith in
-    (
+    let long : length c.loop.dealt.items ≡ k = let n = c.loop.invariant.2 in omega arith in (
       c.next.ensures.seat.0 ∙ c.loop.invariant.0,
       c.next.ensures.seat.1 ∙ ap (λ m. (others m.0, [])) at ∙ ap (λ w. (w, [])) (others_left v.setting v.opening c.args.passes k h),
       omega (arith, c.push_reserved.ensures.len, c.loop.invariant.2),
@@ -28,7 +27,7 @@ loop-preserved g c =
           (λ j pass. known pass ≡ dealt c.args.first.table_id v.setting v.opening c.args.passes (j + 1)) c.loop.dealt.items c.next.result
           (λ j near. c.loop.invariant.4 j (omega arith))
           (c.next.ensures.pass ∙ ap (λ id. known_of id (first_alone c.loop.first.me.0)) c.loop.invariant.0 ∙ ap (λ m. known_of c.args.first.table_id (first_alone m.0)) at
-            ∙ next_dealt v.setting v.opening c.args.passes k h c.args.first.table_id ∙ ap (λ j. dealt c.args.first.table_id v.setting v.opening c.args.passes (j + 1)) (sym long))
+          ∙ next_dealt v.setting v.opening c.args.passes k h c.args.first.table_id ∙ ap (λ j. dealt c.args.first.table_id v.setting v.opening c.args.passes (j + 1)) (sym long))
           i (omega arith)),
     )
 

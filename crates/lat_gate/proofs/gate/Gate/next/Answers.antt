@@ -1,4 +1,4 @@
-use Rattle.std.proofs.Common.{rules, refl, arith, ap, ◌∙◌, length}
+use Rattle.std.proofs.Common.{rules, arith, ap, ◌∙◌, length}
 use Rattle.lat_gate.specs.Seats.{is_idle}
 use Rattle.lat_gate.proofs.Hands.{first_number}
 use Rattle.lat_gate.proofs.Meets.{splits}

@@ -1,4 +1,4 @@
-use Rattle.std.proofs.Common.{◌≡◌, ℕ, ◌∷◌, [], ◌++◌, ◌*◌, Some, length, ap, sym, ◌∙◌, subst, arith}
+use Rattle.std.proofs.Common.{◌≡◌, ℕ, ◌∷◌, [], ◌*◌, length, ap, sym, ◌∙◌, arith}
 use Rattle.std.proofs.lemmas.Grind.{common_steps}
 use Rattle.lat_gate.specs.History.{of_number}
 use Rattle.lat_gate.proofs.Meets.{opens}
@@ -9,4 +9,4 @@ new-requires g c =
     let same = sym c.of.ensures in
     let word : c.from.result ≡ length (g.M.Machine.entries c.of.result.value) = c.from.ensures ∙ c.count.ensures.counted ∙ ap (λ x. length (g.M.Machine.entries x)) same in
     opens _ _ _ c.args.machine (ap (λ (n : ℕ). 2 * n ∷ []) word) (grind (arith, common_steps)) (ap g.M.Machine.entries same) (ap g.M.Machine.setting same)
-        (λ n dealt. ap (λ x. of_number g.M.Machine.number n (g.M.Machine.entries x)) c.of.ensures ∙ c.requires.unused n dealt)
+    (λ n dealt. ap (λ x. of_number g.M.Machine.number n (g.M.Machine.entries x)) c.of.ensures ∙ c.requires.unused n dealt)

@@ -1,4 +1,4 @@
-use Rattle.std.proofs.Common.{rules, refl, ap, [], eqb-true}
+use Rattle.std.proofs.Common.{rules, refl, ap}
 use Rattle.lat_gate.proofs.Keeps.{takes_turn}
 use Rattle.lat_gate.proofs.gate.Gate.try_take.Goals as goal
 

@@ -1,4 +1,4 @@
-use Rattle.std.proofs.Common.{◌≡◌, ◌∷◌, [], refl, ◌∙◌, sym, append-nil}
+use Rattle.std.proofs.Common.{[], refl, ◌∙◌, sym, append-nil}
 use Rattle.lat_gate.proofs.Turns.{settled_informed}
 use Rattle.lat_gate.proofs.turn.Turn.give_back.Goals as goal
 

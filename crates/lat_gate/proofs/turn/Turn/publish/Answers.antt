@@ -1,4 +1,4 @@
-use Rattle.std.proofs.Common.{◌≡◌, ◌∷◌, [], ◌∙◌, subst}
+use Rattle.std.proofs.Common.{◌∷◌, [], ◌∙◌, subst}
 use Rattle.lat_gate.specs.Rule.{Has}
 use Rattle.lat_gate.proofs.Turns.{last_entry, of_number_entry, settled_published}
 use Rattle.lat_gate.proofs.turn.Turn.publish.Goals as goal
@@ -9,4 +9,4 @@ settle-requires-clause-more g c = let t = c.requires.one_more in (t.0 ∷ [], t.
 pub returns-clause-pass : goal.returns-clause-pass
 returns-clause-pass g c = λ e is. let t = c.requires.one_more in
     c.settle.ensures.pass ∙ settled_published g.M.Machine.number _ c.args.self.seat.me.0 _ e c.args.self.held.2 is
-        (subst (λ d. Has c.args.self.seat.me.0.own (g.M.Machine.number d)) (last_entry _ _ t.0 e t.1 is) t.2)
+    (subst (λ d. Has c.args.self.seat.me.0.own (g.M.Machine.number d)) (last_entry _ _ t.0 e t.1 is) t.2)

@@ -1,4 +1,4 @@
-use Rattle.std.proofs.Common.{◌≡◌, ◌*◌, ◌∷◌, ℕ, [], Some, None, rules, refl, ap, sym, ◌∙◌}
+use Rattle.std.proofs.Common.{◌*◌, ◌∷◌, ℕ, Some, None, rules, ap, sym, ◌∙◌}
 use Rattle.atomic_table.specs.Table.{rest}
 use Rattle.lat_gate.proofs.Hands.{empty_slot, held_hand, one_number}
 use Rattle.lat_gate.proofs.Keeps.{gives_back}
@@ -11,8 +11,7 @@ exchange-requires g c = let at = empty_slot _ c.args.self.held.0 in (c.args.self
 pub swap-requires : goal.swap-requires
 swap-requires g c =
     let held = c.args.self.held in let v = c.args.self.seat.me.0 in let x = c.args.self.machine in
-    let one = one_number v.own held.2 in let more = c.requires.more in
-    (
+    let one = one_number v.own held.2 in let more = c.requires.more in (
       c.exchange.ensures.0 ∙ c.args.self.of_gate,
       search rules,
       gives_back _ _ _ _ v x one.0 one.1.0 _ more.0 _ c.args.self.gate.now.sized.1
