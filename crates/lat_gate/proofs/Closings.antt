@@ -29,7 +29,8 @@ module _ {M E : Type 0} (gate : Terms M E) where
   pub record Closes (v : View E) (x : M) : Type 0 where
     pub setting : gate.setting_of x ≡ v.setting
     pub begins : BeginsWith (gate.entries x) v.told
-    pub own : (n : ℕ) (mine : List E) → Contains v.own (n, mine) → of_number gate.number n (gate.entries x) ≡ mine
+    pub own : (n : ℕ) (mine : List E) → Contains v.own (n, mine)
+        → of_number gate.number n (gate.entries x) ≡ mine
     pub others : (n : ℕ) → ¬ IsDealt v.passes n
         → of_number gate.number n (gate.entries x) ≡ of_number gate.number n v.opening
 
@@ -61,13 +62,15 @@ module _ {M E : Type 0} (gate : Terms M E) where
             (λ same. apart_seats s.views r.now i id w v st.1.1 at st.1.2 last.idle (sym same)) st.1.1 at theirs.1 also)
       ] r.stands
 
-  module _ (id : ℕ) (v : View E) (words : List ℕ) (slots : List (Option M)) (slot : Option M) (final : Final (Seen (Kept gate) id v) words slots) (last : IsLast v) (at : get_elem? slots 0 ≡ some slot) where
+  module _ (id : ℕ) (v : View E) (words : List ℕ) (slots : List (Option M)) (slot : Option M) where
     -- the slot of a closed gate has such a machine
-    pub closed_slot : (x : M) × (slot ≡ Some x) × Closes v x
-    closed_slot = let done = closes id v words slots final last in
+    pub closed_slot : Final (Seen (Kept gate) id v) words slots → IsLast v
+        → get_elem? slots 0 ≡ some slot → (x : M) × (slot ≡ Some x) × Closes v x
+    closed_slot final last at = let done = closes id v words slots final last in
         (done.0, some-injective slot (Some done.0) (sym at ∙ done.1), done.2)
 
     -- the machine in it is such a one
-    pub closed_machine : (y : M) → slot ≡ Some y → Closes v y
-    closed_machine y is = let found = closed_slot in
+    pub closed_machine : Final (Seen (Kept gate) id v) words slots → IsLast v
+        → get_elem? slots 0 ≡ some slot → (y : M) → slot ≡ Some y → Closes v y
+    closed_machine final last at y is = let found = closed_slot final last at in
         let same : found.0 ≡ y = let a : slot ≡ Some found.0 = found.1 in cc in subst (Closes v) same found.2

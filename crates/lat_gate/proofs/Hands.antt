@@ -14,7 +14,8 @@ module _ {M : Type 0} where
   no_slot (o ∷ slots) e = absurd (omega arith)
 
   -- a seat with the empty slot has no other
-  pub empty_slot : (slots : List (ℕ × Option M)) → has_empty_slot slots ≡ true → slots ≡ (0, None) ∷ []
+  pub empty_slot : (slots : List (ℕ × Option M)) → has_empty_slot slots ≡ true
+      → slots ≡ (0, None) ∷ []
   empty_slot [] e = cc
   empty_slot ((zero, None) ∷ []) e = refl
   empty_slot ((zero, Some x) ∷ []) e = cc
@@ -33,7 +34,8 @@ module _ {E : Type 0} where
   held_hand (Holds log) e = refl
 
   -- a seat with one number has it
-  pub one_number : (own : Own E) → length own ≡ 1 → (n : ℕ) × ((mine : List E) × (own ≡ (n, mine) ∷ []))
+  pub one_number : (own : Own E) → length own ≡ 1
+      → (n : ℕ) × ((mine : List E) × (own ≡ (n, mine) ∷ []))
   one_number [] e = absurd (omega arith)
   one_number (o ∷ []) e = (o.0, (o.1, refl))
   one_number (o ∷ q ∷ own) e = absurd (omega arith)

@@ -38,7 +38,8 @@ module _ {A : Type 0} where
       (λ (none : Contains [] x). absurd (contains_none x none)) (contains_cases x y [] c)
 
   -- what is set at a place that there is, stands there
-  pub get_here : (l : List A) (i : ℕ) (a b : A) → get_elem? l i ≡ some a → get_elem? (set l i b) i ≡ some b
+  pub get_here : (l : List A) (i : ℕ) (a b : A) → get_elem? l i ≡ some a
+      → get_elem? (set l i b) i ≡ some b
   get_here [] i a b e = absurd (some-ne-none a (sym e))
   get_here (x ∷ xs) zero a b e = refl
   get_here (x ∷ xs) (suc i) a b e = get_here xs i a b e
@@ -56,8 +57,8 @@ module _ {A : Type 0} where
     term_le (x ∷ xs) zero v e = omega (arith, ap f (some-injective x v e), sum_by-cons f x xs)
     term_le (x ∷ xs) (suc i) v e = omega (arith, term_le xs i v e, sum_by-cons f x xs)
 
-    terms_le : (l : List A) (i j : ℕ) (v w : A) → j ≢ i → get_elem? l i ≡ some v → get_elem? l j ≡ some w
-        → f v + f w ≤ sum_by f l
+    terms_le : (l : List A) (i j : ℕ) (v w : A) → j ≢ i → get_elem? l i ≡ some v
+        → get_elem? l j ≡ some w → f v + f w ≤ sum_by f l
     terms_le [] i j v w ne e d = absurd (some-ne-none v (sym e))
     terms_le (x ∷ xs) zero zero v w ne e d = absurd (ne refl)
     terms_le (x ∷ xs) zero (suc j) v w ne e d =
@@ -109,8 +110,8 @@ module _ {E : Type 0} where
   two_holders n views i j v w ne e d = terms_le (λ (u : View E). times n u.own) views i j v w ne e d
 
   -- what `numbered` contains is one of these numbers with no entries
-  pub numbered_contains : (first count n : ℕ) (mine : List E) → Contains (numbered first count) (n, mine)
-      → (first ≤ n) × (n < first + count) × (mine ≡ [])
+  pub numbered_contains : (first count n : ℕ) (mine : List E)
+      → Contains (numbered first count) (n, mine) → (first ≤ n) × (n < first + count) × (mine ≡ [])
   numbered_contains first zero n mine c = absurd (contains_none (n, mine) c)
   numbered_contains first (suc count) n mine c =
       let o : ℕ × List E = (n, mine) in let q : ℕ × List E = (first, []) in
@@ -142,7 +143,8 @@ module _ (E : Type 0) where
 
   -- the numbers that are left after i of them are the next one and those after it
   pub numbered_next : (i passes : ℕ) → i < passes
-      → numbered {E = E} (i + 1) (passes - i) ≡ (i + 1, []) ∷ numbered (i + 1 + 1) (passes - (i + 1))
+      → numbered {E = E} (i + 1) (passes - i)
+      ≡ (i + 1, []) ∷ numbered (i + 1 + 1) (passes - (i + 1))
   numbered_next i passes h =
       let left : passes - i ≡ suc (passes - (i + 1)) = omega arith in
       let next : suc (i + 1) ≡ i + 1 + 1 = omega arith in

@@ -32,7 +32,8 @@ module _ {M E : Type 0} (gate : Terms M E) where
 
   -- what a view has of a number it has under other own lists too
   pub refit : (now : List E) (v w : View E) (n : ℕ) (mine : List E) → w.setting ≡ v.setting
-      → w.opening ≡ v.opening → w.passes ≡ v.passes → Fits gate now v n mine → Fits gate now w n mine
+      → w.opening ≡ v.opening → w.passes ≡ v.passes → Fits gate now v n mine
+      → Fits gate now w n mine
   refit now v w n mine a b c f = record {
     setting_is = a ∙ f.setting_is;
     opening_is = b ∙ f.opening_is;
@@ -41,9 +42,10 @@ module _ {M E : Type 0} (gate : Terms M E) where
     own = f.own;
   }
 
-  -- A step of the seat id, whose view v becomes w with the same numbers. The current list becomes `now`, which
-  -- is the old one and entries of these numbers alone.
-  record Change (s : St M E) (r : Kept gate s) (id : ℕ) (v w : View E) (now more : List E) : Type 0 where
+  -- A step of the seat id, whose view v becomes w with the same numbers. The current list becomes `now`,
+  -- which is the old one and entries of these numbers alone.
+  record Change (s : St M E) (r : Kept gate s) (id : ℕ) (v w : View E) (now more : List E)
+      : Type 0 where
     at : Sits s.views id v
     longer : now ≡ r.now ++ more
     only : (n : ℕ) → ¬ Has v.own n → of_number gate.number n more ≡ []
@@ -51,9 +53,11 @@ module _ {M E : Type 0} (gate : Terms M E) where
     fits : (n : ℕ) (mine : List E) → Contains w.own (n, mine) → Fits gate now w n mine
     same : (n : ℕ) → times n w.own ≡ times n v.own
 
+  -- such a step keeps the rule
   changed : (s : St M E) (r : Kept gate s) (id : ℕ) (v w : View E) (now more : List E)
-      → Change s r id v w now more → (ws : List ℕ) (hs : List (maybe.Option (Option M))) (phase : Phase)
-      → length ws ≡ 1 → Stands gate now phase record { words = ws; homes = hs; views = set s.views id w }
+      → Change s r id v w now more
+      → (ws : List ℕ) (hs : List (maybe.Option (Option M))) (phase : Phase) → length ws ≡ 1
+      → Stands gate now phase record { words = ws; homes = hs; views = set s.views id w }
       → ((i : ℕ) (u : View E) → Sits (set s.views id w) i u → (u.hand ≡ Idle) ⊎ (phase ≡ held i))
       → Kept gate record { words = ws; homes = hs; views = set s.views id w }
   changed s r id v w now more d ws hs phase wide stands hands =
@@ -203,8 +207,8 @@ module _ {M E : Type 0} (gate : Terms M E) where
       ))
       (r.hands id v at)
 
-  -- What the holder of the turn gives back: the machine x, whose history is the one that it was taken with and
-  -- more entries of the seat's one number k.
+  -- What the holder of the turn gives back: the machine x, whose history is the one that it was taken
+  -- with and more entries of the seat's one number k.
   pub record Gives (v : View E) (x : M) (k : ℕ) (mine log more : List E) : Type 0 where
     pub own : v.own ≡ (k, mine) ∷ []
     pub holds : v.hand ≡ Holds log
@@ -212,82 +216,95 @@ module _ {M E : Type 0} (gate : Terms M E) where
     pub only : (n : ℕ) → n ≢ k → of_number gate.number n more ≡ []
     pub setting : gate.setting_of x ≡ v.setting
 
-  module _ (s : St M E) (r : Kept gate s) (id : ℕ) (v : View E) (x : M) (k : ℕ) (mine log more : List E) (at : Sits s.views id v) (d : Gives v x k mine log more) where
-    abbrev now : List E
-    now = gate.entries x
+  module _
+      (s : St M E)
+      (r : Kept gate s)
+      (id : ℕ)
+      (v : View E)
+      (x : M)
+      (k : ℕ)
+      (mine log more : List E)
+      (at : Sits s.views id v)
+      (d : Gives v x k mine log more)
+    where
+      abbrev now : List E
+      now = gate.entries x
 
-    abbrev w : View E
-    w = settled gate.number v now
+      abbrev w : View E
+      w = settled gate.number v now
 
-    abbrev only_own : Own E
-    only_own = (k, mine) ∷ []
+      abbrev only_own : Own E
+      only_own = (k, mine) ∷ []
 
-    abbrev new_own : List E
-    new_own = mine ++ of_number gate.number k (newer v now)
+      abbrev new_own : List E
+      new_own = mine ++ of_number gate.number k (newer v now)
 
-    own_is : w.own ≡ (k, new_own) ∷ []
-    own_is = ap (grown gate.number (newer v now)) d.own
+      own_is : w.own ≡ (k, new_own) ∷ []
+      own_is = ap (grown gate.number (newer v now)) d.own
 
-    first : Fits gate r.now v k mine
-    first = r.each id v k mine at (subst (λ (o : Own E). Contains o (k, mine)) (sym d.own) (contains_head (k, mine) []))
+      first : Fits gate r.now v k mine
+      first = r.each id v k mine at (subst (λ (o : Own E). Contains o (k, mine)) (sym d.own) (contains_head (k, mine) []))
 
-    longer_now : now ≡ r.now ++ more
-    longer_now = d.longer ∙ ap (λ (l : List E). l ++ more) (sym (its_turn s r id v log at d.holds).1)
+      longer_now : now ≡ r.now ++ more
+      longer_now = d.longer ∙ ap (λ (l : List E). l ++ more) (sym (its_turn s r id v log at d.holds).1)
 
-    newer_is : newer v now ≡ more
-    newer_is = ap (λ (h : Hand E). drop (length (held_log h)) now) d.holds
-        ∙ ap (drop (length log)) d.longer ∙ drop_front log more
+      newer_is : newer v now ≡ more
+      newer_is = ap (λ (h : Hand E). drop (length (held_log h)) now) d.holds
+          ∙ ap (drop (length log)) d.longer ∙ drop_front log more
 
-    new_own_is : of_number gate.number k now ≡ new_own
-    new_own_is = ap (of_number gate.number k) longer_now ∙ of_number-append gate.number k r.now more
-        ∙ ap (λ (l : List E). l ++ of_number gate.number k more) first.own
-        ∙ ap (λ (l : List E). mine ++ of_number gate.number k l) (sym newer_is)
+      new_own_is : of_number gate.number k now ≡ new_own
+      new_own_is = ap (of_number gate.number k) longer_now ∙ of_number-append gate.number k r.now more
+          ∙ ap (λ (l : List E). l ++ of_number gate.number k more) first.own
+          ∙ ap (λ (l : List E). mine ++ of_number gate.number k l) (sym newer_is)
 
-    has_number : (n : ℕ) → n ≡ k → Has v.own n
-    has_number n e = (
-      mine,
-      subst (λ (o : Own E). Contains o (n, mine)) (sym d.own)
-          (subst (λ (j : ℕ). Contains only_own (j, mine)) (sym e) (contains_head (k, mine) [])),
-    )
+      has_number : (n : ℕ) → n ≡ k → Has v.own n
+      has_number n e = (
+        mine,
+        subst (λ (o : Own E). Contains o (n, mine)) (sym d.own)
+            (subst (λ (j : ℕ). Contains only_own (j, mine)) (sym e) (contains_head (k, mine) [])),
+      )
 
-    settles : Change s r id v w now more
-    settles = record {
-      at = at;
-      longer = longer_now;
-      only = λ n lacks. d.only n (λ e. lacks (has_number n e));
-      told = (
-        begins_with_itself now,
-        subst (λ (l : List E). BeginsWith l v.noted) (sym longer_now) (begins_still r.now v.noted more (r.told id v at).1),
-      );
-      fits = λ n m c.
-          let is = contains_only (n, m) (k, new_own) (subst (λ (l : Own E). Contains l (n, m)) own_is c) in
-          let same : k ≡ n = ap (λ (o : ℕ × List E). o.0) is in
-          record {
-            setting_is = first.setting_is;
-            opening_is = first.opening_is;
-            passes_are = first.passes_are;
-            dealt = subst (λ (j : ℕ). IsDealt gate.passes j) same first.dealt;
-            own = ap (λ (j : ℕ). of_number gate.number j now) (sym same) ∙ new_own_is ∙ ap (λ (o : ℕ × List E). o.1) is;
-          };
-      same = λ n. ap (times n) own_is ∙ sym (ap (times n) d.own);
-    }
+      settles : Change s r id v w now more
+      settles = record {
+        at = at;
+        longer = longer_now;
+        only = λ n lacks. d.only n (λ e. lacks (has_number n e));
+        told = (
+          begins_with_itself now,
+          subst (λ (l : List E). BeginsWith l v.noted) (sym longer_now) (begins_still r.now v.noted more (r.told id v at).1),
+        );
+        fits = λ n m c.
+            let is = contains_only (n, m) (k, new_own) (subst (λ (l : Own E). Contains l (n, m)) own_is c) in
+            let same : k ≡ n = ap (λ (o : ℕ × List E). o.0) is in
+            record {
+              setting_is = first.setting_is;
+              opening_is = first.opening_is;
+              passes_are = first.passes_are;
+              dealt = subst (λ (j : ℕ). IsDealt gate.passes j) same first.dealt;
+              own = ap (λ (j : ℕ). of_number gate.number j now) (sym same) ∙ new_own_is ∙ ap (λ (o : ℕ × List E). o.1) is;
+            };
+        same = λ n. ap (times n) own_is ∙ sym (ap (times n) d.own);
+      }
 
-    -- then the gate is free, and every seat is idle
-    all_idle : (i : ℕ) (u : View E) → Sits (set s.views id w) i u → (u.hand ≡ Idle) ⊎ (free ≡ held i)
-    all_idle i u e = ⊎_elim
-        (λ (t : (i ≡ id) × (w ≡ u)). inl (ap (λ (z : View E). z.hand) (sym t.1)))
-        (λ (t : (i ≢ id) × Sits s.views i u). ⊎_elim
-        (λ (h : u.hand ≡ Idle). inl h)
-        (λ (h : r.phase ≡ held i).
-        let is : held i ≡ held id = sym h ∙ (its_turn s r id v log at d.holds).0 in
-        let same : i ≡ id = cc in absurd (t.0 same))
-        (r.hands i u t.1))
-        (at_set s.views id i w u e)
+      -- then the gate is free, and every seat is idle
+      all_idle : (i : ℕ) (u : View E) → Sits (set s.views id w) i u
+          → (u.hand ≡ Idle) ⊎ (free ≡ held i)
+      all_idle i u e = ⊎_elim
+          (λ (t : (i ≡ id) × (w ≡ u)). inl (ap (λ (z : View E). z.hand) (sym t.1)))
+          (λ (t : (i ≢ id) × Sits s.views i u). ⊎_elim
+          (λ (h : u.hand ≡ Idle). inl h)
+          (λ (h : r.phase ≡ held i).
+          let is : held i ≡ held id = sym h ∙ (its_turn s r id v log at d.holds).0 in
+          let same : i ≡ id = cc in absurd (t.0 same))
+          (r.hands i u t.1))
+          (at_set s.views id i w u e)
 
   -- a swap to twice the number of entries keeps the rule, and gives the machine back
-  pub gives_back : (slots id : ℕ) (me : Seated M E) (v : View E) (x : M) (k : ℕ) (mine log more : List E) (new : ℕ)
-      → slots ≡ 1 → me ≡ (v, (0, Some x) ∷ []) → Gives v x k mine log more → new ≡ 2 * length (gate.entries x)
-      → Allows (Kept gate) slots id me 0 (λ _. new) (gave_back gate.entries gate.number (step slots 0 new 0 none) me)
+  pub gives_back : (slots id : ℕ) (me : Seated M E) (v : View E) (x : M) (k : ℕ)
+      (mine log more : List E) (new : ℕ) → slots ≡ 1 → me ≡ (v, (0, Some x) ∷ [])
+      → Gives v x k mine log more → new ≡ 2 * length (gate.entries x)
+      → Allows (Kept gate) slots id me 0 (λ _. new)
+      (gave_back gate.entries gate.number (step slots 0 new 0 none) me)
   gives_back slots id me v x k mine log more new one_slot me_is d word =
       subst (λ (m : Seated M E). Allows (Kept gate) slots id m 0 (λ _. new)
       (gave_back gate.entries gate.number (step slots 0 new 0 none) m)) (sym me_is)

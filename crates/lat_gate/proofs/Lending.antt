@@ -19,6 +19,19 @@ module _ {M E : Type 0} where
   IsHeld-prop : (m : Me (Option M) (View E)) → IsProp (IsHeld m)
   IsHeld-prop m = hlevel props
 
-  pub same_turn : (gate : Bor (Gate M E)) (seat : Seat (Option M) (View E)) (x : M) (p p' : seat.table_id ≡ gate_id gate.now) (q q' : IsHeld seat.me)
-      → ◌≡◌ {A = Turn M E} record { gate = gate; seat = seat; machine = x; of_gate = p; held = q } record { gate = gate; seat = seat; machine = x; of_gate = p'; held = q' }
-  same_turn gate seat x p p' q q' = λ i. record { gate = gate; seat = seat; machine = x; of_gate = TableId-set seat.table_id (gate_id gate.now) p p' i; held = IsHeld-prop seat.me q q' i }
+  abbrev turn : (gate : Bor (Gate M E)) (seat : Seat (Option M) (View E)) → M
+      → seat.table_id ≡ gate_id gate.now → IsHeld seat.me → Turn M E
+  turn gate seat x p q = record {
+    gate = gate;
+    seat = seat;
+    machine = x;
+    of_gate = p;
+    held = q;
+  }
+
+  -- two turns of one seat with one machine are one
+  pub same_turn : (gate : Bor (Gate M E)) (seat : Seat (Option M) (View E)) (x : M)
+      (p p' : seat.table_id ≡ gate_id gate.now) (q q' : IsHeld seat.me)
+      → turn gate seat x p q ≡ turn gate seat x p' q'
+  same_turn gate seat x p p' q q' = λ i. turn gate seat x
+      (TableId-set seat.table_id (gate_id gate.now) p p' i) (IsHeld-prop seat.me q q' i)

@@ -28,29 +28,35 @@ module _ {A : Type 0} where
   in_others [] x c = c
   in_others (y ∷ l) x c = contains_tail x y l c
 
--- What holds of each place and its element, and of the new elements at their places, holds after a change.
-module _ {V : Type 0} (P : ℕ → V → Type 0) (views : List V) (old : (i : ℕ) (u : V) → get_elem? views i ≡ some u → P i u) where
-  after_set : (id : ℕ) (w : V) → P id w → (i : ℕ) (u : V) → get_elem? (set views id w) i ≡ some u → P i u
-  after_set id w here i u e = ⊎_elim
-      (λ (t : (i ≡ id) × (w ≡ u)). subst (λ (x : V). P i x) t.1 (subst (λ (j : ℕ). P j w) (sym t.0) here))
-      (λ (t : (i ≢ id) × (get_elem? views i ≡ some u)). old i u t.1)
-      (at_set views id i w u e)
+-- What holds of each place and its element, and of the new elements there, holds after a change.
+module _
+    {V : Type 0}
+    (P : ℕ → V → Type 0)
+    (views : List V)
+    (old : (i : ℕ) (u : V) → get_elem? views i ≡ some u → P i u)
+  where
+    after_set : (id : ℕ) (w : V) → P id w
+        → (i : ℕ) (u : V) → get_elem? (set views id w) i ≡ some u → P i u
+    after_set id w here i u e = ⊎_elim
+        (λ (t : (i ≡ id) × (w ≡ u)). subst (λ (x : V). P i x) t.1 (subst (λ (j : ℕ). P j w) (sym t.0) here))
+        (λ (t : (i ≢ id) × (get_elem? views i ≡ some u)). old i u t.1)
+        (at_set views id i w u e)
 
-  -- an element is cut in two
-  after_cut : (id : ℕ) (left right : V) → P id left → ((i : ℕ) → P i right)
-      → (i : ℕ) (u : V) → get_elem? (set views id left ++ right ∷ []) i ≡ some u → P i u
-  after_cut id left right to_left to_right i u e = ⊎_elim
-      (λ (t : get_elem? (set views id left) i ≡ some u). after_set id left to_left i u t)
-      (λ (t : right ≡ u). subst (λ (x : V). P i x) t (to_right i))
-      (at_snoc (set views id left) right u i e)
+    -- an element is cut in two
+    after_cut : (id : ℕ) (left right : V) → P id left → ((i : ℕ) → P i right)
+        → (i : ℕ) (u : V) → get_elem? (set views id left ++ right ∷ []) i ≡ some u → P i u
+    after_cut id left right to_left to_right i u e = ⊎_elim
+        (λ (t : get_elem? (set views id left) i ≡ some u). after_set id left to_left i u t)
+        (λ (t : right ≡ u). subst (λ (x : V). P i x) t (to_right i))
+        (at_snoc (set views id left) right u i e)
 
-  -- two elements are joined, and something is left of the second
-  after_join : (id other : ℕ) (joined gone : V) → P id joined → ((i : ℕ) → P i gone)
-      → (i : ℕ) (u : V) → get_elem? (set (set views id joined) other gone) i ≡ some u → P i u
-  after_join id other joined gone to_joined to_gone i u e = ⊎_elim
-      (λ (t : (i ≡ other) × (gone ≡ u)). subst (λ (x : V). P i x) t.1 (to_gone i))
-      (λ (t : (i ≢ other) × (get_elem? (set views id joined) i ≡ some u)). after_set id joined to_joined i u t.1)
-      (at_set (set views id joined) other i gone u e)
+    -- two elements are joined, and something is left of the second
+    after_join : (id other : ℕ) (joined gone : V) → P id joined → ((i : ℕ) → P i gone)
+        → (i : ℕ) (u : V) → get_elem? (set (set views id joined) other gone) i ≡ some u → P i u
+    after_join id other joined gone to_joined to_gone i u e = ⊎_elim
+        (λ (t : (i ≡ other) × (gone ≡ u)). subst (λ (x : V). P i x) t.1 (to_gone i))
+        (λ (t : (i ≢ other) × (get_elem? (set views id joined) i ≡ some u)). after_set id joined to_joined i u t.1)
+        (at_set (set views id joined) other i gone u e)
 
 -- a seat that holds the turn is not an idle one
 pub apart_seats : {E : Type 0} (views : List (View E)) (now : List E) (i j : ℕ) (u v : View E)
@@ -68,7 +74,8 @@ module _ {M E : Type 0} (gate : Terms M E) where
   still_stands s views now stays (held i) st = (st.0, (st.1.0, stays i st.1.0 st.1.1 st.1.2, st.1.2, st.1.3))
 
   -- an idle seat may give its first number to a new seat
-  pub splits : (id : ℕ) (v : View E) → v.hand ≡ Idle → Splits (Kept gate) id v (others v) (first_alone v)
+  pub splits : (id : ℕ) (v : View E) → v.hand ≡ Idle
+      → Splits (Kept gate) id v (others v) (first_alone v)
   splits id v idle s r at =
       let left : View E = others v in let right : View E = first_alone v in
       let first : List (View E) = set s.views id left in
@@ -100,8 +107,8 @@ module _ {M E : Type 0} (gate : Terms M E) where
       }
 
   -- an idle seat with a number may take the numbers of another
-  pub joins : (id : ℕ) (v : View E) (other : ℕ) (w : View E) → v.hand ≡ Idle → w.hand ≡ Idle → HasNumber v.own
-      → Joins (Kept gate) id v other w (both v w) spent
+  pub joins : (id : ℕ) (v : View E) (other : ℕ) (w : View E) → v.hand ≡ Idle → w.hand ≡ Idle
+      → HasNumber v.own → Joins (Kept gate) id v other w (both v w) spent
   joins id v other w idle idle_too number s r at apart at_changed =
       let b : View E = both v w in let first : List (View E) = set s.views id b in
       let at_other : Sits s.views other w = sym (set_else s.views id other b apart) ∙ at_changed in
@@ -144,8 +151,8 @@ module _ {M E : Type 0} (gate : Terms M E) where
       }
 
   -- the table at the start: one seat has every number, and the machine has no entry of these
-  pub opens : (words : List ℕ) (slots : List (Option M)) (x : M) → words ≡ 2 * length gate.opening ∷ []
-      → slots ≡ Some x ∷ [] → gate.entries x ≡ gate.opening → gate.setting_of x ≡ gate.setting
+  pub opens : (words : List ℕ) (slots : List (Option M)) (x : M)
+      → words ≡ 2 * length gate.opening ∷ [] → slots ≡ Some x ∷ [] → gate.entries x ≡ gate.opening → gate.setting_of x ≡ gate.setting
       → ((n : ℕ) → IsDealt gate.passes n → of_number gate.number n gate.opening ≡ [])
       → Kept gate (opening words slots (first_view gate.setting gate.opening gate.passes))
   opens words slots x words_are slots_are has fixed unused =

@@ -18,11 +18,13 @@ module _ {E : Type 0} where
       sym (ap (λ (p : ℕ × List E). p.0) (contains_only o (n, mine) (subst (λ (l : Own E). Contains l o) is h.1)))
 
   -- a seat with one number has no other
-  pub only_number : (own : Own E) (n k : ℕ) (mine : List E) → own ≡ (n, mine) ∷ [] → k ≢ n → ¬ Has own k
+  pub only_number : (own : Own E) (n k : ℕ) (mine : List E) → own ≡ (n, mine) ∷ [] → k ≢ n
+      → ¬ Has own k
   only_number own n k mine is ne h = ne (its_number own n k mine is h)
 
   -- a list that is another and one entry more is so by one entry alone
-  pub last_entry : (log more : List E) (d e : E) → more ≡ log ++ d ∷ [] → more ≡ log ++ e ∷ [] → d ≡ e
+  pub last_entry : (log more : List E) (d e : E) → more ≡ log ++ d ∷ [] → more ≡ log ++ e ∷ []
+      → d ≡ e
   last_entry log more d e p q =
       let ends : d ∷ [] ≡ e ∷ [] =
       sym (drop_front log (d ∷ [])) ∙ ap (drop (length log)) (sym p ∙ q) ∙ drop_front log (e ∷ []) in cc
@@ -58,7 +60,8 @@ module _ {E : Type 0} where
 
     -- with no entry more it has seen the history
     pub settled_informed : (id : TableId) (v : View E) (log : List E) → length v.own ≡ 1
-        → log ≡ held_log v.hand → known_of id (settled number v log) ≡ informed (known_of id v) (held_log v.hand)
+        → log ≡ held_log v.hand
+        → known_of id (settled number v log) ≡ informed (known_of id v) (held_log v.hand)
     settled_informed id v log one same =
         let o = one_number v.own one in let n = o.0 in let mine = o.1.0 in
         let is : v.own ≡ (n, mine) ∷ [] = o.1.1 in

@@ -1,7 +1,7 @@
--- The rule of a gate, which holds between any two steps on its table. The table has one word and one slot.
+-- The rule of a gate, which holds between any two steps on its table of one word and one slot.
 --     Terms       what the rule takes from the machine's type and from the opening of the gate
 --     Own         the numbers of a pass, each with the pass's own entries of it
---     Stands      what the word, the slot and the holder are while the machine is at home and while it is out
+--     Stands      the word, the slot and the holder, while the machine is at home and while it is out
 --     Fits        what is true of one number of a view
 --     Kept        the rule
 use Rattle.std.specs.Prelude.{◌≡◌, ◌⊎◌, ℕ, zero, suc, ◌+◌, ◌*◌, ◌≤◌, ◌==◌, List, [], ◌∷◌, length, Option, Some, slice_index, Contains}
@@ -89,7 +89,8 @@ module _ {M E : Type 0} (gate : Terms M E) where
     -- no seat but the holder has a turn
     pub hands : (i : ℕ) (v : View E) → Sits s.views i v → (v.hand ≡ Idle) ⊎ (phase ≡ held i)
     -- what a view was told is a beginning of the current list
-    pub told : (i : ℕ) (v : View E) → Sits s.views i v → BeginsWith now v.told × BeginsWith now v.noted
+    pub told : (i : ℕ) (v : View E) → Sits s.views i v
+        → BeginsWith now v.told × BeginsWith now v.noted
     pub each : (i : ℕ) (v : View E) (n : ℕ) (mine : List E) → Sits s.views i v
         → Contains v.own (n, mine) → Fits now v n mine
     -- no number is in two views

@@ -79,13 +79,16 @@ module _ {E : Type 0} where
 
   -- the pass has seen this history, and has the new entry among its own
   abbrev pub published : Known E → List E → E → Known E
-  published k log e = record k { own = map (λ (o : ℕ × List E). (o.0, o.1 ++ e ∷ [])) k.own; seen = log }
+  published k log e = record k {
+    own = map (λ (o : ℕ × List E). (o.0, o.1 ++ e ∷ [])) k.own;
+    seen = log;
+  }
 
   -- the pass has seen this history
   abbrev pub informed : Known E → List E → Known E
   informed k log = record k { seen = log }
 
-  -- the pass has the numbers of both with their own lists, and has seen the longer of their histories
+  -- the pass has the numbers of both with their lists, and has seen the longer of their histories
   abbrev pub joined : Known E → Known E → Known E
   joined a b = record a { own = a.own ++ b.own; seen = longer a.seen b.seen }
 

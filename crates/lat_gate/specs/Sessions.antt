@@ -2,6 +2,7 @@
 --     HasOnly n k        its pass has the number n and no other
 --     Adds k e k'        it published one entry more
 --     Sees k k'          it gave the machine back as it was
+--     number_of entry    the number of the pass that added it
 --     tally n count      amounts of the number n, from 0 on
 use Rattle.std.specs.Prelude.{◌≡◌, ℕ, zero, suc, List, [], ◌∷◌, ◌++◌}
 use Rattle.lat_gate.specs.History.{BeginsWith}
@@ -23,7 +24,12 @@ module _ {E : Type 0} where
 
   -- the pass is as before, but for what it has seen and its own lists
   abbrev pub IsSamePass : Known E → Known E → Type 0
-  IsSamePass k k' = (k'.gate ≡ k.gate) × (k'.setting ≡ k.setting) × (k'.opening ≡ k.opening) × (k'.passes ≡ k.passes)
+  IsSamePass k k' = (k'.gate ≡ k.gate) × (k'.setting ≡ k.setting) × (k'.opening ≡ k.opening)
+      × (k'.passes ≡ k.passes)
+
+-- the number of the pass that added an amount
+abbrev pub number_of : Amount → ℕ
+number_of entry = entry.number
 
 -- as many amounts of the number n as said: 0, 1, 2 and so on
 abbrev pub tally : ℕ → ℕ → List Amount

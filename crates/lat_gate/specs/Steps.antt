@@ -1,7 +1,8 @@
 -- What each kind of step on the table of a gate does to the views, and tells.
---     first_view, others, first_alone     at the opening: the view of the first seat, and how it deals its numbers
---     looked, tried, gave_back            a load, a compare-exchange and a swap of the word
---     both, spent                         two seats are joined
+--     first_view                  the view of the first seat, which has every number
+--     others, first_alone         it gives its first number to a new seat
+--     looked, tried, gave_back    a load, a compare-exchange and a swap of the word
+--     both, spent                 two seats are joined
 use Rattle.std.specs.Prelude.{◌≡◌, ◌≢◌, ℕ, ◌*◌, ◌≤◌, List, [], ◌∷◌, ◌++◌, map, take, drop, length, Option, Some, None, Contains}
 use Rattle.atomic_table.specs.Table.{Me, Step, rest}
 use Rattle.lat_gate.specs.History.{of_number, BeginsWith, longer, shorter}
@@ -54,11 +55,19 @@ module _ {E : Type 0} where
 
   -- the seat has given the machine back with this history
   abbrev pub settled : (E → ℕ) → View E → List E → View E
-  settled number v log = record v { own = grown number (newer v log) v.own; told = log; hand = Idle }
+  settled number v log = record v {
+    own = grown number (newer v log) v.own;
+    told = log;
+    hand = Idle;
+  }
 
   -- the numbers of both, and the longer of what they were told
   abbrev pub both : View E → View E → View E
-  both v w = record v { own = v.own ++ w.own; told = longer v.told w.told; noted = shorter v.told w.told }
+  both v w = record v {
+    own = v.own ++ w.own;
+    told = longer v.told w.told;
+    noted = shorter v.told w.told;
+  }
 
   -- nothing is left
   abbrev pub spent : View E
@@ -68,8 +77,8 @@ module _ {E : Type 0} where
 abbrev Tells : Type 0 → Type 0 → Type 1
 Tells M E = Step (Option M) → Me (Option M) (View E) → ℕ → Me (Option M) (View E) → Type 0
 
--- a load: the word is at least twice the length of what the view was told, and of the two lists that the
--- view has the longer begins with the other
+-- a load: the word is at least twice the length of what the view was told, and this list begins with
+-- the noted one where that is no longer
 abbrev pub looked : {M E : Type 0} → Tells M E
 looked st m r m' = (m' ≡ m) × (2 * length m.0.told ≤ r)
     × (length m.0.noted ≤ length m.0.told → BeginsWith m.0.told m.0.noted)
@@ -81,12 +90,13 @@ carried_log entries ((k, Some x) ∷ slots) = entries x
 carried_log entries ((k, None) ∷ slots) = []
 
 module _ {M E : Type 0} (entries : M → List E) (number : E → ℕ) where
-  -- the seat has taken the slot, and in it a machine with the setting, whose history begins with what the view
-  -- was told and has of each of the view's numbers exactly its own entries
+  -- the seat has taken the slot, and in it a machine with the setting, whose history begins with what
+  -- the view was told and has of each of the view's numbers exactly its own entries
   abbrev pub Took : (M → List ℕ) → Me (Option M) (View E) → Me (Option M) (View E) → Type 0
   Took setting_of m m' = (x : M) × (m' ≡ (holding m.0 (entries x), (0, Some x) ∷ []))
       × (setting_of x ≡ m.0.setting) × BeginsWith (entries x) m.0.told
-      × ((n : ℕ) (mine : List E) → Contains m.0.own (n, mine) → of_number number n (entries x) ≡ mine)
+      × ((n : ℕ) (mine : List E) → Contains m.0.own (n, mine)
+      → of_number number n (entries x) ≡ mine)
 
   -- a compare-exchange, which took the slot exactly where it found the word that it expected
   abbrev pub tried : (M → List ℕ) → Tells M E

@@ -13,7 +13,7 @@ mod lend;
 
 /// The machine of a gate, in the hands of the session that took it.
 ///
-/// It has to be spent by `publish` or `give_back`.
+/// It has to be spent by [`publish`](Turn::publish) or [`give_back`](Turn::give_back).
 pub struct Turn<'g, M: Machine> {
     pub(crate) gate: &'g Gate<M>,
     pub(crate) seat: Seat<Option<M>, View<M::Entry>>,
@@ -31,12 +31,13 @@ impl<'g, M: Machine> Turn<'g, M> {
 
     /// Puts the machine back with one entry more, of the number of the pass, and gives the pass back.
     ///
-    /// Requires that the machine has the gate's setting, and that its history is the one at the take
-    /// and one entry more. The pass has then seen this history, and has the entry among its own.
+    /// Requires that the machine has the gate's setting, and that its history is the one at the take and
+    /// one entry more. The pass has then seen this history, and has the entry behind its own ones.
     pub fn publish(self) -> Pass<M>
         requires setting { M.setting (machine_of self) ≡ (pass_of self).setting }
         requires one_more { AddsOne M.number (pass_of self).own (taken self) (M.entries (machine_of self)) }
-        ensures pass { (e : M.Entry) → M.entries (machine_of self.entry) ≡ taken self.entry ++ e ∷ [] →
+        ensures pass { (e : M.Entry) →
+            M.entries (machine_of self.entry) ≡ taken self.entry ++ e ∷ [] →
             known result ≡ published (pass_of self.entry) (M.entries (machine_of self.entry)) e }
         ensures legal { M.legal (pass_of self.entry).setting (M.entries (machine_of self.entry)) }
     {
@@ -61,8 +62,8 @@ impl<'g, M: Machine> Turn<'g, M> {
         requires setting { M.setting (machine_of self) ≡ (pass_of self).setting }
         requires more { (more : List M.Entry) × (M.entries (machine_of self) ≡ taken self ++ more)
             × ((n : ℕ) → ¬ Has (pass_of self).own n → of_number M.number n more ≡ []) }
-        ensures pass { known result ≡
-            known_of self.entry.seat.table_id (settled M.number self.entry.seat.me.0 (M.entries (machine_of self.entry))) }
+        ensures pass { known result ≡ known_of self.entry.seat.table_id
+            (settled M.number self.entry.seat.me.0 (M.entries (machine_of self.entry))) }
         ensures legal { M.legal (pass_of self.entry).setting (M.entries (machine_of self.entry)) }
     {
         let Turn {

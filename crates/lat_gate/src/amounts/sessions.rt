@@ -3,7 +3,7 @@ ghost use Rattle.std.specs.Prelude.{◌≡◌, ◌≢◌, ℕ, List, [], ◌∷�
 ghost use Rattle.lat_gate.specs.History.{of_number};
 ghost use Rattle.lat_gate.specs.Seats.{dealt};
 ghost use Rattle.lat_gate.specs.Passes.{gate_id, known, IsPassOf};
-ghost use Rattle.lat_gate.specs.Sessions.{HasOnly, Adds, Sees, IsSamePass, tally};
+ghost use Rattle.lat_gate.specs.Sessions.{number_of, HasOnly, Adds, Sees, IsSamePass, tally};
 ghost use Rattle.lat_gate.specs.declared.amounts.Amount.{Amount};
 
 use super::{Amount, Amounts};
@@ -35,11 +35,11 @@ pub fn close_two(gate: Gate<Amounts>, first: Pass<Amounts>, second: Pass<Amounts
     requires two { (known first).passes ≡ 2 }
     requires numbers { HasOnly 1 (known first) × HasOnly 2 (known second) }
     ensures first { (mine : List Amount) → (known first).own ≡ (1, mine) ∷ [] →
-        of_number (λ entry. entry.number) 1 result ≡ mine }
+        of_number number_of 1 result ≡ mine }
     ensures second { (mine : List Amount) → (known second).own ≡ (2, mine) ∷ [] →
-        of_number (λ entry. entry.number) 2 result ≡ mine }
+        of_number number_of 2 result ≡ mine }
     ensures others { (n : ℕ) → n ≢ 1 → n ≢ 2 →
-        of_number (λ entry. entry.number) n result ≡ of_number (λ entry. entry.number) n (known first).opening }
+        of_number number_of n result ≡ of_number number_of n (known first).opening }
 {
     let mut kept = first;
     gate.join(&mut kept, second);
@@ -92,17 +92,17 @@ pub fn add_each<R: Wait>(
 
 /// Two sessions beside each other add as many amounts each as said; then the gate is closed.
 ///
-/// Whatever the order in which they took the machine, the amounts of each are all there, once each and
-/// in the order in which it added them, and there are no others.
+/// Whatever the order in which they took the machine, the amounts of each are all there, once each and in
+/// the order in which it added them, and there are no others.
 pub fn add_beside<R: Threads + Wait + Sync>(
     rt: &R,
     alloc: Global,
     count: u32,
 ) -> Result<Amounts, NoMemory>
-    ensures first { IfOk result (λ amounts. of_number (λ entry. entry.number) 1 amounts ≡ tally 1 count) }
-    ensures second { IfOk result (λ amounts. of_number (λ entry. entry.number) 2 amounts ≡ tally 2 count) }
+    ensures first { IfOk result (λ amounts. of_number number_of 1 amounts ≡ tally 1 count) }
+    ensures second { IfOk result (λ amounts. of_number number_of 2 amounts ≡ tally 2 count) }
     ensures others { IfOk result (λ amounts. (n : ℕ) → n ≢ 1 → n ≢ 2 →
-        of_number (λ entry. entry.number) n amounts ≡ []) }
+        of_number number_of n amounts ≡ []) }
 {
     let (gate, first, second) = open_two(alloc)?;
     let ((first, added), (second, also)) = join(

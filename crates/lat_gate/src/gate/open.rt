@@ -23,10 +23,13 @@ pub const MAX_PASSES: u32 = 16;
 impl<M: Machine> Gate<M> {
     /// Opens a gate over `machine`, with `passes` passes, which are numbered from 1 on.
     ///
-    /// Requires that `passes` is from 1 to [`MAX_PASSES`], and that the machine has no entry of these numbers.
+    /// Requires that `passes` is from 1 to [`MAX_PASSES`], and that the machine has no entry of these
+    /// numbers. Each pass has seen the machine's history, and keeps its setting and history as those
+    /// that the gate was opened with.
     pub fn open(alloc: Global, machine: M, passes: u32) -> Result<(Gate<M>, Vec<Pass<M>>), NoMemory>
         requires passes { (1 ≤ passes) × (passes ≤ MAX_PASSES) }
-        requires unused { (n : ℕ) → IsDealt passes n → of_number M.number n (M.entries machine) ≡ [] }
+        requires unused { (n : ℕ) → IsDealt passes n →
+            of_number M.number n (M.entries machine) ≡ [] }
         ensures count { IfOk result (λ made. vec_len made.1 ≡ passes) }
         ensures dealt { IfOk result (λ made. (i : ℕ) → i < passes →
             IfSome (slice_get made.1.items i) (λ pass. known pass ≡
@@ -62,7 +65,8 @@ impl<M: Machine> Gate<M> {
         requires all { first.me ≡ (first_view first.me.0.setting first.me.0.opening passes, []) }
         requires room { (room.items ≡ []) × (vec_capacity room ≡ passes) }
         ensures count { vec_len result ≡ passes }
-        ensures dealt { (i : ℕ) → i < passes → IfSome (slice_get result.items i) (λ pass. known pass ≡
+        ensures dealt { (i : ℕ) → i < passes →
+            IfSome (slice_get result.items i) (λ pass. known pass ≡
             dealt first.table_id first.me.0.setting first.me.0.opening passes (i + 1)) }
     {
         let mut dealt = room;
@@ -75,8 +79,10 @@ impl<M: Machine> Gate<M> {
     // Gives the first number of a seat to a seat of its own.
     fn next(&self, seat: &mut Seat<Option<M>, View<M::Entry>>) -> Pass<M>
         requires gate { seat.old.table_id ≡ gate_id self.now }
-        requires idle { (seat.old.me.1 ≡ []) × (seat.old.me.0.hand ≡ Idle) × (0 < length seat.old.me.0.own) }
-        ensures seat { (seat.new.table_id ≡ seat.old.table_id) × (seat.new.me ≡ (others seat.old.me.0, [])) }
+        requires idle { (seat.old.me.1 ≡ []) × (seat.old.me.0.hand ≡ Idle)
+            × (0 < length seat.old.me.0.own) }
+        ensures seat { (seat.new.table_id ≡ seat.old.table_id)
+            × (seat.new.me ≡ (others seat.old.me.0, [])) }
         ensures pass { known result ≡ known_of seat.old.table_id (first_alone seat.old.me.0) }
     {
         Pass {

@@ -22,9 +22,9 @@ use std::thread::yield_now;
 impl<M: Machine> Gate<M> {
     /// Waits until the gate is free, and takes the machine.
     ///
-    /// Requires that the pass is of this gate and has one number. The machine then has the gate's
-    /// setting; its history begins with what the pass has seen, and the entries of the pass's number in
-    /// it are exactly the pass's own.
+    /// Requires that the pass is of this gate and has one number. The machine then has the setting that
+    /// the gate was opened with. Its history is legal and begins with what the pass has seen, and the
+    /// entries of the pass's number in it are exactly the pass's own.
     pub fn take<'g, R: Wait>(&'g self, rt: &R, pass: Pass<M>) -> Turn<'g, M>
         requires of_gate { IsPassOf self.now pass }
         requires one_number { length (known pass).own ≡ 1 }
@@ -75,7 +75,8 @@ impl<M: Machine> Gate<M> {
     // Takes the machine out of the slot.
     fn slot_out<'g>(&'g self, mut seat: Seat<Option<M>, View<M::Entry>>) -> Turn<'g, M>
         requires gate { seat.table_id ≡ gate_id self.now }
-        requires held { (x : M) × (seat.me.1 ≡ (0, Some x) ∷ []) × (seat.me.0.hand ≡ Holds (M.entries x)) × (M.setting x ≡ seat.me.0.setting) }
+        requires held { (x : M) × (seat.me.1 ≡ (0, Some x) ∷ [])
+            × (seat.me.0.hand ≡ Holds (M.entries x)) × (M.setting x ≡ seat.me.0.setting) }
         requires one_number { length seat.me.0.own ≡ 1 }
         ensures pass { pass_of result ≡ known_of seat.table_id seat.me.0 }
         ensures machine { seat.me.1 ≡ (0, Some (machine_of result)) ∷ [] }
