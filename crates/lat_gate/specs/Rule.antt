@@ -1,7 +1,7 @@
 -- The rule of a gate, which holds between any two steps on its table of one word and one slot.
 --     Terms       what the rule takes from the machine's type and from the opening of the gate
 --     Own         the numbers of a pass, each with the pass's own entries of it
---     Stands      the word, the slot and the holder, while the machine is at home and while it is out
+--     Stands      the word, the slot and the holder, with the machine at home and with it out
 --     Fits        what is true of one number of a view
 --     Kept        the rule
 use Rattle.std.specs.Prelude.{◌≡◌, ◌⊎◌, ℕ, zero, suc, ◌+◌, ◌*◌, ◌≤◌, ◌==◌, List, [], ◌∷◌, length, Option, Some, slice_index, Contains}
@@ -80,6 +80,7 @@ module _ {M E : Type 0} (gate : Terms M E) where
     pub dealt : IsDealt gate.passes n
     pub own : of_number gate.number n now ≡ mine
 
+  -- the rule
   pub record Kept (s : State (Option M) (View E)) : Type 0 where
     -- the current list
     pub now : List E

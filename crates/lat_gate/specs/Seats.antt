@@ -28,6 +28,7 @@ pub record Known (E : Type 0) : Type 0 where
   -- the history that the pass has seen
   pub seen : List E
 
+-- the hand holds no turn
 abbrev pub is_idle : {E : Type 0} → Hand E → Bool
 is_idle Idle = true
 is_idle (Holds log) = false
@@ -52,6 +53,7 @@ abbrev pub IsHeld : {M E : Type 0} → Me (Option M) (View E) → Type 0
 IsHeld m = IsTrue (has_empty_slot m.1) × (is_idle m.0.hand ≡ false) × (length m.0.own ≡ 1)
 
 module _ {E : Type 0} where
+  -- what a pass knows, from its table and its view
   abbrev pub known_of : TableId → View E → Known E
   known_of id v = record {
     gate = id;

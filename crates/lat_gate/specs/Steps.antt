@@ -77,8 +77,8 @@ module _ {E : Type 0} where
 abbrev Tells : Type 0 → Type 0 → Type 1
 Tells M E = Step (Option M) → Me (Option M) (View E) → ℕ → Me (Option M) (View E) → Type 0
 
--- a load: the word is at least twice the length of what the view was told, and this list begins with
--- the noted one where that is no longer
+-- a load: the word is at least twice the length of what the view was told, and this list begins
+-- with the noted one where that is no longer
 abbrev pub looked : {M E : Type 0} → Tells M E
 looked st m r m' = (m' ≡ m) × (2 * length m.0.told ≤ r)
     × (length m.0.noted ≤ length m.0.told → BeginsWith m.0.told m.0.noted)
@@ -90,8 +90,8 @@ carried_log entries ((k, Some x) ∷ slots) = entries x
 carried_log entries ((k, None) ∷ slots) = []
 
 module _ {M E : Type 0} (entries : M → List E) (number : E → ℕ) where
-  -- the seat has taken the slot, and in it a machine with the setting, whose history begins with what
-  -- the view was told and has of each of the view's numbers exactly its own entries
+  -- the seat has taken the slot, and in it a machine with the setting, whose history begins with
+  -- what the view was told and has of each of the view's numbers exactly its own entries
   abbrev pub Took : (M → List ℕ) → Me (Option M) (View E) → Me (Option M) (View E) → Type 0
   Took setting_of m m' = (x : M) × (m' ≡ (holding m.0 (entries x), (0, Some x) ∷ []))
       × (setting_of x ≡ m.0.setting) × BeginsWith (entries x) m.0.told

@@ -72,7 +72,8 @@ impl Amounts {
         &self.entries
     }
 
-    /// Adds an amount. There is also no memory for more than 4,294,967,295 of them.
+    /// Adds an amount at the end. It answers [`NoMemory`], and adds nothing, also where there are
+    /// 4,294,967,295 of them already.
     pub fn add(&mut self, entry: Amount) -> Result<(), NoMemory>
         ensures ok { OnOk result (self.new ≡ self.old ++ entry ∷ []) }
         ensures err { OnErr result (self.new ≡ self.old) }

@@ -29,13 +29,16 @@ impl<'g, M: Machine> Turn<'g, M> {
     ghost use Rattle.lat_gate.specs.Seats.{known_of, AddsOne, published, informed};
     ghost use Rattle.lat_gate.specs.Passes.{known, pass_of, taken, machine_of};
 
-    /// Puts the machine back with one entry more, of the number of the pass, and gives the pass back.
+    /// Puts the machine back with one entry more, of the number of the pass, and gives the pass
+    /// back.
     ///
-    /// Requires that the machine has the gate's setting, and that its history is the one at the take and
-    /// one entry more. The pass has then seen this history, and has the entry behind its own ones.
+    /// Requires that the machine has the gate's setting, and that its history is the one at the
+    /// take and one entry more. The pass has then seen this history, and has the entry behind
+    /// its own ones.
     pub fn publish(self) -> Pass<M>
         requires setting { M.setting (machine_of self) ≡ (pass_of self).setting }
-        requires one_more { AddsOne M.number (pass_of self).own (taken self) (M.entries (machine_of self)) }
+        requires one_more { AddsOne M.number (pass_of self).own (taken self)
+            (M.entries (machine_of self)) }
         ensures pass { (e : M.Entry) →
             M.entries (machine_of self.entry) ≡ taken self.entry ++ e ∷ [] →
             known result ≡ published (pass_of self.entry) (M.entries (machine_of self.entry)) e }
@@ -46,8 +49,8 @@ impl<'g, M: Machine> Turn<'g, M> {
 
     /// Puts the machine back as it was taken, and gives the pass back.
     ///
-    /// Requires that the machine has the gate's setting and the history at the take. The pass has then
-    /// seen this history.
+    /// Requires that the machine has the gate's setting and the history at the take. The pass
+    /// has then seen this history.
     pub fn give_back(self) -> Pass<M>
         requires setting { M.setting (machine_of self) ≡ (pass_of self).setting }
         requires none_more { M.entries (machine_of self) ≡ taken self }

@@ -14,7 +14,7 @@ use std::alloc::Global;
 use std::sync::Wait;
 use std::thread::{Threads, join};
 
-/// A gate over no amounts, with the passes 1 and 2.
+/// A gate over no amounts, with the passes 1 and 2. It fails for want of memory alone.
 pub fn open_two(alloc: Global) -> Result<(Gate<Amounts>, Pass<Amounts>, Pass<Amounts>), NoMemory>
     ensures first { IfOk result (λ made. known made.1 ≡ dealt (gate_id made.0) [] [] 2 1) }
     ensures second { IfOk result (λ made. known made.2 ≡ dealt (gate_id made.0) [] [] 2 2) }
@@ -30,6 +30,10 @@ pub fn open_two(alloc: Global) -> Result<(Gate<Amounts>, Pass<Amounts>, Pass<Amo
 }
 
 /// Closes a gate with its passes 1 and 2, and gives the amounts.
+///
+/// Requires that both are of this gate, that it has no other passes, and that each has its number
+/// alone. The amounts of each number are its pass's own, in order; those of other numbers are as at
+/// the opening.
 pub fn close_two(gate: Gate<Amounts>, first: Pass<Amounts>, second: Pass<Amounts>) -> Amounts
     requires of_gate { IsPassOf gate first × IsPassOf gate second }
     requires two { (known first).passes ≡ 2 }
@@ -46,7 +50,11 @@ pub fn close_two(gate: Gate<Amounts>, first: Pass<Amounts>, second: Pass<Amounts
     gate.close(kept)
 }
 
-/// Adds one amount, under the number of the pass.
+/// Adds one amount, under the number of the pass. It waits until the gate is free.
+///
+/// Requires that the pass is of this gate and has the entry's number alone. The pass comes back. On
+/// `Ok` it has seen a history that ends with the entry, and has the entry behind its own ones; for
+/// want of memory the machine is given back as it was.
 pub fn add<R: Wait>(
     rt: &R,
     gate: &Gate<Amounts>,
@@ -65,7 +73,8 @@ pub fn add<R: Wait>(
     }
 }
 
-/// Adds as many amounts as said, 0, 1, 2 and so on, under the number of the pass.
+/// Adds as many amounts as said, 0, 1, 2 and so on, under the number of the pass, which has none yet.
+/// Other sessions may add theirs in between. It stops where there is no memory.
 pub fn add_each<R: Wait>(
     rt: &R,
     gate: &Gate<Amounts>,
@@ -92,8 +101,9 @@ pub fn add_each<R: Wait>(
 
 /// Two sessions beside each other add as many amounts each as said; then the gate is closed.
 ///
-/// Whatever the order in which they took the machine, the amounts of each are all there, once each and in
-/// the order in which it added them, and there are no others.
+/// Whatever the order in which they took the machine, the amounts of each are all there, once
+/// each and in the order in which it added them, and there are no others. It fails for want of
+/// memory alone.
 pub fn add_beside<R: Threads + Wait + Sync>(
     rt: &R,
     alloc: Global,

@@ -13,9 +13,9 @@ use crate::rule::Merge;
 impl<M: Machine> Gate<M> {
     /// Gives the numbers of `other` to `kept`, each with its own entries.
     ///
-    /// Requires that both passes are of this gate. What the kept pass has then seen is the longer of the
-    /// two histories that they had seen, and it begins with both. A pass with more than one number is
-    /// only joined further, or closed.
+    /// Requires that both passes are of this gate. What the kept pass has then seen is the
+    /// longer of the two histories that they had seen, and it begins with both. A pass with more
+    /// than one number is only joined further, or closed.
     pub fn join(&self, kept: &mut Pass<M>, other: Pass<M>)
         requires kept_of_gate { IsPassOf self.now kept.old }
         requires other_of_gate { IsPassOf self.now other }
@@ -30,10 +30,10 @@ impl<M: Machine> Gate<M> {
 
     /// Closes the gate, and gives the machine.
     ///
-    /// Requires that the pass is of this gate and has every number that was dealt. The machine then has
-    /// the setting that the gate was opened with. Its history is legal and begins with what the pass has
-    /// seen. Of each of the pass's numbers it has exactly the pass's own entries, and of every other
-    /// number exactly those that it had at the opening.
+    /// Requires that the pass is of this gate and has every number that was dealt. The machine
+    /// then has the setting that the gate was opened with. Its history is legal and begins with
+    /// what the pass has seen. Of each of the pass's numbers it has exactly the pass's own
+    /// entries, and of every other number exactly those that it had at the opening.
     pub fn close(self, pass: Pass<M>) -> M
         requires of_gate { IsPassOf self pass }
         requires every { HasEvery (known pass) }

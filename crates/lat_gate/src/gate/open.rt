@@ -23,9 +23,9 @@ pub const MAX_PASSES: u32 = 16;
 impl<M: Machine> Gate<M> {
     /// Opens a gate over `machine`, with `passes` passes, which are numbered from 1 on.
     ///
-    /// Requires that `passes` is from 1 to [`MAX_PASSES`], and that the machine has no entry of these
-    /// numbers. Each pass has seen the machine's history, and keeps its setting and history as those
-    /// that the gate was opened with.
+    /// Requires that `passes` is from 1 to [`MAX_PASSES`], and that the machine has no entry of
+    /// these numbers. Each pass has seen the machine's history, and keeps its setting and
+    /// history as those that the gate was opened with.
     pub fn open(alloc: Global, machine: M, passes: u32) -> Result<(Gate<M>, Vec<Pass<M>>), NoMemory>
         requires passes { (1 ≤ passes) × (passes ≤ MAX_PASSES) }
         requires unused { (n : ℕ) → IsDealt passes n →

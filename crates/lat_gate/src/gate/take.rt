@@ -22,9 +22,9 @@ use std::thread::yield_now;
 impl<M: Machine> Gate<M> {
     /// Waits until the gate is free, and takes the machine.
     ///
-    /// Requires that the pass is of this gate and has one number. The machine then has the setting that
-    /// the gate was opened with. Its history is legal and begins with what the pass has seen, and the
-    /// entries of the pass's number in it are exactly the pass's own.
+    /// Requires that the pass is of this gate and has one number. The machine then has the
+    /// setting that the gate was opened with. Its history is legal and begins with what the pass
+    /// has seen, and the entries of the pass's number in it are exactly the pass's own.
     pub fn take<'g, R: Wait>(&'g self, rt: &R, pass: Pass<M>) -> Turn<'g, M>
         requires of_gate { IsPassOf self.now pass }
         requires one_number { length (known pass).own ≡ 1 }

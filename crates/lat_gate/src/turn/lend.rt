@@ -1,5 +1,5 @@
-//! The machine of a turn is lent. This has a file of its own, since its clause names the row of `Turn`,
-//! which the file that declares `Turn` can't import.
+//! The machine of a turn is lent. This has a file of its own, since its clause names the row of
+//! `Turn`, which the file that declares `Turn` can't import.
 ghost use Rattle.std.specs.Prelude.{◌≡◌, []};
 ghost use Rattle.std.specs.Borrow.{sem, follows};
 ghost use mir.Syntax.{named};
