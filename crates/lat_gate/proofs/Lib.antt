@@ -1,0 +1,10 @@
+pub mod Histories
+pub mod Holders
+pub mod Hands
+pub mod Keeps
+pub mod Meets
+pub mod Closings
+pub mod Dealing
+pub mod Turns
+pub mod Lending
+pub mod TwoPasses
