@@ -7,10 +7,10 @@ use arrayvec::ArrayVec;
 use ff_poly::{MAX_DEGREE, Prime};
 
 // The numbers that `remainder` takes are below this.
-const MAX_SUM: u16 = 1024;
+const MAX_SUM: u16 = 4096;
 
 // What a quotient by the reciprocal of a prime is divided by in the end.
-const SCALE: u32 = 65536;
+const SCALE: u32 = 1048576;
 
 // Multiplies each place by the factor.
 pub(crate) fn scale_places(p: Prime, row: &mut [u8], factor: u8)
@@ -44,15 +44,15 @@ pub(crate) fn add_multiple(p: Prime, row: &mut [u8], source: &[u8], factor: u8)
 }
 
 // By what `remainder` multiplies in place of a division by p.
-fn reciprocal(p: Prime) -> u16
-    ensures { result ≡ 65535 / p + 1 }
+fn reciprocal(p: Prime) -> u32
+    ensures { result ≡ 1048575 / p + 1 }
 {
-    65535 / p.number() as u16 + 1
+    1048575 / p.number() as u32 + 1
 }
 
 // The residue `a * b + c`.
-fn product_sum(p: Prime, reciprocal: u16, a: u8, b: u8, c: u8) -> u8
-    requires reciprocal { reciprocal ≡ 65535 / p + 1 }
+fn product_sum(p: Prime, reciprocal: u32, a: u8, b: u8, c: u8) -> u8
+    requires reciprocal { reciprocal ≡ 1048575 / p + 1 }
     requires factors { (a < p) × (b < p) }
     requires addend { c < p }
     ensures sum { result ≡ (mod_ops p).add ((mod_ops p).mul a b) c }
@@ -65,12 +65,12 @@ fn product_sum(p: Prime, reciprocal: u16, a: u8, b: u8, c: u8) -> u8
 // The remainder of x modulo p, with no division.
 //
 // The quotient is exact: p * reciprocal is above SCALE by less than p, and x / p + 1 times that is below reciprocal.
-fn remainder(p: Prime, reciprocal: u16, x: u16) -> u8
-    requires reciprocal { reciprocal ≡ 65535 / p + 1 }
+fn remainder(p: Prime, reciprocal: u32, x: u16) -> u8
+    requires reciprocal { reciprocal ≡ 1048575 / p + 1 }
     requires small { x < MAX_SUM }
     ensures { result ≡ x % p }
 {
-    let quotient = (x as u32 * reciprocal as u32 / SCALE) as u16;
+    let quotient = (x as u32 * reciprocal / SCALE) as u16;
     (x - quotient * p.number() as u16) as u8
 }
 

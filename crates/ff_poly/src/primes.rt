@@ -1,14 +1,21 @@
 //! The characteristics, and arithmetic modulo one of them.
 ghost use Rattle.std.specs.Prelude.{◌≡◌, ◌≢◌, ◌<◌, ◌≤◌, SomeIff};
-ghost use Rattle.alg_model.specs.Coefficients.{IsCharacteristic, mod_ops};
+ghost use Rattle.alg_model.specs.Coefficients.{primes, IsCharacteristic, mod_ops};
 
 use crate::PRIMES;
 use std::marker::Model;
 
 /// The characteristics, in their order.
-pub const CHARACTERISTICS: [u32; PRIMES] = [2, 3, 5, 7, 11, 13, 17, 19, 23, 29, 31];
+pub const CHARACTERISTICS: [u32; PRIMES] = [
+    2, 3, 5, 7, 11, 13, 17, 19, 23, 29, 31, 37, 41, 43, 47, 53, 59, 61,
+];
 
-/// One of the characteristics 2, 3, 5, 7, 11, 13, 17, 19, 23, 29, 31.
+/// The table holds the characteristics of the definitions, in the same order.
+pub fn characteristics_in_order()
+    ensures { CHARACTERISTICS ≡ primes }
+{}
+
+/// One of the characteristics: a prime number below 64.
 #[derive(Clone, Copy, PartialEq, Eq)]
 pub struct Prime {
     number: u8,
@@ -37,7 +44,7 @@ impl Default for Prime {
 }
 
 impl Prime {
-    /// The characteristic `n`, or `None` where `n` is none of the eleven.
+    /// The characteristic `n`, or `None` where `n` is none of the characteristics.
     pub fn of(n: u32) -> Option<Prime>
         ensures { SomeIff result (IsCharacteristic n) n }
     {
@@ -52,7 +59,7 @@ impl Prime {
     pub fn number(self) -> u8
         ensures value { result ≡ self }
         ensures whole { IsCharacteristic self }
-        ensures small { (1 < result) × (result < 32) }
+        ensures small { (1 < result) × (result < 64) }
     {
         self.number
     }

@@ -15,9 +15,9 @@ each c k l =
 pub returns-clause-growth : goal.returns-clause-growth
 returns-clause-growth c b h =
     let xs = c.args.places.now in
-    let small : c.args.p < 32 = omega (arith, c.number-number.ensures.small.1, c.number-number.ensures.value) in
+    let small : c.args.p < 64 = omega (arith, c.number-number.ensures.small.1, c.number-number.ensures.value) in
     places_grow (c.args.p - slice_index xs (length xs - 1) % c.args.p) b c.args.f.now xs c.loop-i.places (omega arith)
-    (All-weaker (λ x. x < c.args.p) (λ x. x < 32) (λ x l. omega arith) c.args.f.now c.requires.residues)
+    (All-weaker (λ x. x < c.args.p) (λ x. x < 64) (λ x l. omega arith) c.args.f.now c.requires.residues)
     (omega (arith, c.requires.sizes)) c.loop-i.invariant.len (each c) h
 
 pub returns-clause-product : goal.returns-clause-product
