@@ -6,6 +6,7 @@ ghost use Rattle.alg_model.specs.Factors.{IsMonic, IsProperFactor, IsLeastFactor
 ghost use Rattle.ff_factor.specs.Certificates.{IsVerdict};
 
 use crate::factorization::{cofactor, collect};
+use crate::linear::linear_factor;
 use crate::splitting::{Finding, split};
 use crate::{Cert, FactorList};
 use ff_poly::{MAX_DEGREE, Poly};
@@ -36,6 +37,12 @@ pub fn judge(f: &Poly) -> Verdict
     requires degree { length f.now.coefficients ≤ MAX_DEGREE + 1 }
     ensures { IsVerdict f.now result }
 {
+    if f.coefficients().len() > 2 {
+        if let Some(factor) = linear_factor(f) {
+            let cofactor = cofactor(f, &factor);
+            return Verdict::Reducible { factor, cofactor };
+        }
+    }
     match split(f) {
         Finding::Irreducible(cert) => Verdict::Irreducible(cert),
         Finding::Divisor(divisor) => {
