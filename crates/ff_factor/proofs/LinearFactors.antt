@@ -1,13 +1,16 @@
 -- The least factor x + c of a polynomial over the residues modulo a characteristic.
-use Rattle.std.proofs.Common.{◌≡◌, ◌≢◌, ℕ, suc, ◌+◌, ◌-◌, ◌*◌, ◌%◌, ◌<◌, ◌≤◌, List, [], ◌∷◌, length, drop, get_or, slice_index, All, Less, nat_cmp, refl, ap, ap₂, sym, ◌∙◌, subst, arith, lit<, mod-eq_of_lt}
+use Rattle.std.proofs.Common.{◌≡◌, ◌≢◌, ℕ, suc, ◌+◌, ◌-◌, ◌*◌, ◌%◌, ◌<◌, ◌≤◌, List, [], ◌∷◌, length, drop, get_or, slice_index, All, Less, nat_cmp, refl, ap, ap₂, sym, ◌∙◌, subst, arith, lit<, mod-eq_of_lt, ⊎_elim}
+use Rattle.std.proofs.lemmas.Bool.{cases_eq, cases_lt}
+use Rattle.std.proofs.lemmas.Nat.{mul-le}
+use Rattle.std.proofs.Math.Nat.{mod_self}
 use Rattle.std.specs.Ordering.{ordering_then}
 use Rattle.std.proofs.lemmas.Cmp.{ranked}
-use Rattle.std.proofs.lemmas.List.{drop_more}
-use Rattle.std.proofs.lemmas.List.Elements.{All-nil, All-cons, All-head}
+use Rattle.std.proofs.lemmas.List.{drop_more, get_or_past}
+use Rattle.std.proofs.lemmas.List.Elements.{All-nil, All-cons, All-head, All-get_or}
 use native.Mathlib.Nat.{add-mod-mod, mul_comm, add_comm}
 use Rattle.alg_model.specs.Coefficients.{mod_ops, residues, IsCharacteristic}
 use Rattle.alg_model.specs.Polynomials.{evaluate, leading}
-use Rattle.alg_model.specs.Factors.{IsPolynomial, IsMonic, Divides, IsProperFactor, IsLeastFactor, order_by}
+use Rattle.alg_model.specs.Factors.{IsPolynomial, IsMonic, Divides, IsProperFactor, IsIrreducible, IsLeastFactor, order_by}
 use Rattle.alg_rings.proofs.PolynomialOrder.{order_by_not_longer}
 use Rattle.alg_rings.proofs.ResidueFields.{residues_field, residues_propositional, two_le_characteristic}
 use Rattle.alg_fields.proofs.OnCarriers.{root_iff_divides}
@@ -22,7 +25,13 @@ module _ (p : ℕ) (h : IsCharacteristic p) where
 
   -- the negative of the negative
   negative_twice : (a : ℕ) → a < p → (p - (p - a) % p) % p ≡ a
-  negative_twice a l = ?
+  negative_twice a l = ⊎_elim
+      (λ none. let whole : p - 0 ≡ p = omega arith in
+      let zero_mod : (p - a) % p ≡ 0 = ap (λ k. (p - k) % p) none ∙ ap (λ k. k % p) whole ∙ mod_self p in
+      ap (λ k. (p - k) % p) zero_mod ∙ ap (λ k. k % p) whole ∙ mod_self p ∙ sym none)
+      (λ some. let small : p - a < p = omega arith in
+      ap (λ k. (p - k) % p) (mod-eq_of_lt small) ∙ (let same : p - (p - a) ≡ a = omega arith in ap (λ k. k % p) same) ∙ mod-eq_of_lt l)
+      (cases_eq a 0)
 
   -- x + c divides f exactly where -c is a root
   divides_from_root : (f : List ℕ) (c : ℕ) → IsPolynomial (residues p) f → c < p → evaluate (mod_ops p) f ((p - c) % p) ≡ 0
@@ -68,6 +77,17 @@ module _ (p : ℕ) (h : IsCharacteristic p) where
     least = no_earlier f c v r;
   }
 
+  -- and it has no factor of its own
+  pub linear_irreducible : (c : ℕ) → c < p → IsIrreducible (residues p) (c ∷ 1 ∷ [])
+  linear_irreducible c l = record {
+    polynomial = (
+      All-cons (λ x. x < p) c (1 ∷ []) l (All-cons (λ x. x < p) 1 [] above_one (All-nil (λ x. x < p))),
+      refl,
+    );
+    not_constant = lit< tt;
+    no_factor = λ g k. let long : 1 < length g = k.not_constant in let short : length g < 2 = k.smaller in omega arith;
+  }
+
 -- a step of Horner's rule
 pub horner_step : (p n a : ℕ) (f : List ℕ) (v w : ℕ) → n < length f → v ≡ evaluate (mod_ops p) (drop (n + 1) f) a
     → w ≡ (v * a + slice_index f n) % p → w ≡ evaluate (mod_ops p) (drop n f) a
@@ -77,3 +97,14 @@ horner_step p n a f v w l e step =
     ∙ sym (add-mod-mod (slice_index f n) (a * v) p)
     ∙ ap (λ k. (slice_index f n + (a * k) % p) % p) e
     ∙ ap (λ xs. evaluate (mod_ops p) xs a) (sym (drop_more f n 0 l))
+
+-- a number of a list of residues, and what stands past its end
+pub below_at : (p : ℕ) (xs : List ℕ) (k : ℕ) → 0 < p → All (λ x. x < p) xs → slice_index xs k < p
+below_at p xs k positive v = ⊎_elim
+    (λ l. All-get_or (λ x. x < p) xs k 0 l v)
+    (λ l. let e : slice_index xs k ≡ 0 = get_or_past xs k 0 l in omega arith)
+    (cases_lt k (length xs))
+
+-- a product of two residues and a third one
+pub small_step : (p v x a : ℕ) → p < 64 → v < p → x < p → a < p → v * x + a < 4096
+small_step p v x a small lv lx la = let h : v * x ≤ 63 * 63 = mul-le v x 63 63 (omega arith) (omega arith) in omega arith

@@ -1,21 +1,24 @@
 //! Linear factors, by the values at all residues side by side.
-ghost use Rattle.std.specs.Prelude.{◌≡◌, ◌≢◌, ℕ, ◌+◌, ◌%◌, ◌<◌, ◌≤◌, length, slice_index, All, IfSome};
+ghost use Rattle.std.specs.Prelude.{◌≡◌, ◌≢◌, ℕ, ◌+◌, ◌*◌, ◌%◌, ◌<◌, ◌≤◌, length, slice_index, All, IfSome};
 ghost use Rattle.std.specs.Ordering.{nat_cmp};
 ghost use Rattle.alg_model.specs.Coefficients.{residues, mod_ops};
 ghost use Rattle.alg_model.specs.Polynomials.{evaluate};
-ghost use Rattle.alg_model.specs.Factors.{IsLeastFactor};
+ghost use Rattle.alg_model.specs.Factors.{IsIrreducible, IsLeastFactor};
 ghost use Rattle.ff_factor.specs.InnerSplitting.{IsLeastNegativeRoot};
 
 use crate::polynomials::poly_of;
 use ff_poly::{Poly, Prime};
 
-/// The least factor `x + c` of `f`, if there is one: the first `c` where `f(-c) = 0`.
+/// The least factor `x + c` of `f`, where `f` is of degree above 1 and has one: the first `c` where `f(-c) = 0`.
 pub(crate) fn linear_factor(f: &Poly) -> Option<Poly>
-    requires { 2 < length f.now.coefficients }
     ensures prime { IfSome result (λ g. g.prime ≡ f.now.prime) }
     ensures least { IfSome result (λ g. IsLeastFactor (residues f.now.prime) nat_cmp f.now.coefficients g.coefficients) }
+    ensures irreducible { IfSome result (λ g. IsIrreducible (residues f.now.prime) g.coefficients) }
 {
     let p = f.prime();
+    if f.coefficients().len() <= 2 {
+        return None;
+    }
     match least_negative_root(p, f.coefficients()) {
         Some(c) => Some(poly_of(p, &[c, 1])),
         None => None,
@@ -91,9 +94,11 @@ fn multiply_and_add<const W: usize>(p: Prime, values: &mut [u16; W], points: &[u
     requires values { All (λ x. x < p) values.old }
     requires points { All (λ x. x < p) points.now }
     requires addend { a < p }
+    ensures lanes { length values.new ≡ length values.old }
     ensures residues { All (λ x. x < p) values.new }
     ensures places { (k : ℕ) → k < W → slice_index values.new k ≡ (slice_index values.old k * slice_index points.now k + a) % p }
 {
+    let _number = p.number();
     for l in 0..W {
         values[l] = p.reduced(values[l] * points[l] + a);
     }

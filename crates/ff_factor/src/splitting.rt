@@ -32,6 +32,7 @@ pub(crate) enum Finding {
 /// Where some `v` that is no constant has `v^p = v` modulo `f`, it has a factor in common with `f` when the right constant is
 /// taken off, as `f` divides the product of all `v - c`. Where only constants have it, `f` is a power of an irreducible
 /// polynomial.
+#[inline(never)]
 pub(crate) fn split(f: &Poly) -> Finding
     requires monic { IsMonic (residues f.now.prime) f.now.coefficients }
     requires not_constant { 1 < length f.now.coefficients }
