@@ -18,9 +18,9 @@ mod sums;
 #[cfg(test)]
 mod tests;
 
-pub use primes::{CHARACTERISTICS, Prime, characteristics_in_order};
 pub use divisors::Bezout;
 pub use polynomials::Poly;
+pub use primes::{CHARACTERISTICS, Prime, characteristics_in_order};
 
 /// The greatest degree of a field.
 pub const MAX_DEGREE: usize = 48;

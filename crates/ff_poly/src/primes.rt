@@ -43,10 +43,10 @@ impl Model for Prime {
     ghost inverse = { λ n. record { number = n; reciprocal = reciprocal_of n; shift = shift_of n; run = run_of n } };
 
     ghost inverse_ok = { λ a h i. record {
-        number = a.number;
-        reciprocal = sym h.reciprocal_is i;
-        shift = sym h.shift_is i;
-        run = sym h.run_is i;
+      number = a.number;
+      reciprocal = sym h.reciprocal_is i;
+      shift = sym h.shift_is i;
+      run = sym h.run_is i;
     } };
 }
 

@@ -39,4 +39,3 @@ certificate-requires-clause-separable c =
     let w = c.bezout-bezout.result.w.coefficients in
     ap (λ d. poly_sum o (poly_product o u c.args.f.now.coefficients) (poly_product o w d)) (sym c.derivative-derivative.ensures.derivative)
     ∙ c.bezout-bezout.ensures.identity ∙ common_is_one c
-

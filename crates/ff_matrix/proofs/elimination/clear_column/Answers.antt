@@ -33,7 +33,7 @@ clear_row-requires g c =
 
 pub loop-i-preserved : goal.loop-i-preserved
 loop-i-preserved g c = elim c.if-i-pivot.branch [
-  then-i-pivot w ↦
+  | then-i-pivot w ↦
       subst (λ rows. AreClearedBelow g.row.W c.args.p c.args.column c.args.pivot c.index-rows-pivot.result c.args.rows.now rows (c.loop-i.i + 1)) (sym w.rows-is)
       (cleared_more g.row.W c.args.p c.args.column c.args.pivot c.loop-i.i c.index-rows-pivot.result w.clear_row.new.row c.args.rows.now c.loop-i.rows
       w.if-i-pivot.true (omega (arith, c.loop-i-test.true, c.loop-i.auto.rows)) w.clear_row.ensures.row w.clear_row.ensures.cleared c.loop-i.invariant)

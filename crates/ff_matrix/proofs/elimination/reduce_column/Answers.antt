@@ -11,11 +11,21 @@ clear_column-requires g c =
     let fits : g.row.W * 1 < 2 ^ 63 = omega arith in
     let before : AreRows g.row.W c.args.p c.args.rows.now = c.requires.residues in
     let long = length-set c.swap.new.self (length c.numbers-first.result.now) c.scale_places.new.row in
-    let within : length c.numbers-first.result.now < length c.swap.new.self = omega (arith, c.swap.ensures.len, c.in-Some.ensures.some) in
-    (fits, (width, (omega (arith, long, within), (c.requires.column.0,
-    scaled_rows g.row.W c.args.p c.inv-inverse.result _ c.swap.new.self c.scale_places.new.row within
-    (rw c.swap.ensures.after (swapped_rows g.row.W c.args.p _ _ c.args.rows.now (omega (arith, c.in-Some.ensures.some)) c.in-Some.ensures.some.1 before))
-    c.scale_places.ensures.scaled c.scale_places.ensures.residues))))
+    let within : length c.numbers-first.result.now < length c.swap.new.self = omega (arith, c.swap.ensures.len, c.in-Some.ensures.some) in (
+      fits,
+      (
+        width,
+        (
+          omega (arith, long, within),
+          (
+            c.requires.column.0,
+            scaled_rows g.row.W c.args.p c.inv-inverse.result _ c.swap.new.self c.scale_places.new.row within
+                (rw c.swap.ensures.after (swapped_rows g.row.W c.args.p _ _ c.args.rows.now (omega (arith, c.in-Some.ensures.some)) c.in-Some.ensures.some.1 before))
+                c.scale_places.ensures.scaled c.scale_places.ensures.residues,
+          ),
+        ),
+      ),
+    )
 
 pub returns-in-Some-clause-reduced : goal.returns-in-Some-clause-reduced
 returns-in-Some-clause-reduced g c =
