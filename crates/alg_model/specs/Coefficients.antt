@@ -6,7 +6,7 @@
 --     tested o test                 the carrier of the elements that pass a test
 --     residues p                    the residues modulo p: the numbers below p
 --     IsPrime p                     p is above 1 and a product of two numbers only where one of them is 1
---     IsCharacteristic p            p is one of the characteristics 2, 3, 5, 7, 11, 13, 17, 19, 23, 29, 31
+--     IsCharacteristic p            p is one of the characteristics, which are the 18 primes below 64
 use Rattle.std.specs.Prelude.{◌≡◌, ◌⊎◌, ℕ, zero, suc, ◌+◌, ◌-◌, ◌*◌, ◌%◌, ◌<◌, ◌==◌, Bool, List, [], ◌∷◌, Contains, IsTrue}
 
 pub record Ops (A : Type 0) : Type 0 where
@@ -56,7 +56,8 @@ pub record IsPrime (p : ℕ) : Type 0 where
 
 -- the characteristics, in their order
 abbrev pub primes : List ℕ
-primes = 2 ∷ 3 ∷ 5 ∷ 7 ∷ 11 ∷ 13 ∷ 17 ∷ 19 ∷ 23 ∷ 29 ∷ 31 ∷ []
+primes = 2 ∷ 3 ∷ 5 ∷ 7 ∷ 11 ∷ 13 ∷ 17 ∷ 19 ∷ 23 ∷ 29 ∷ 31
+    ∷ 37 ∷ 41 ∷ 43 ∷ 47 ∷ 53 ∷ 59 ∷ 61 ∷ []
 
 abbrev pub IsCharacteristic : ℕ → Type 0
 IsCharacteristic p = Contains primes p

@@ -1,3 +1,4 @@
+pub mod LinearFactors
 pub mod Compositions
 pub mod BerlekampColumns
 pub mod ListInsertion

@@ -76,14 +76,14 @@ pub shifted_small : (b : ℕ) (xs : List ℕ) → All (λ x. x < b) xs → (k : 
 shifted_small b xs v zero l = omega arith
 shifted_small b xs v (suc k) l = let h : slice_index xs k < b = All-get_or (λ x. x < b) xs k 0 (omega arith) v in omega arith
 
-pub multiple_small : (m a : ℕ) → m < 32 → a < 32 → m * a < 1024
-multiple_small m a lm la = let h : m * a ≤ 31 * 31 = mul-le-mul {n₂ = 31} {m₂ = 31} (omega arith) (omega arith) in omega arith
+pub multiple_small : (m a : ℕ) → m < 64 → a < 64 → m * a < 4096
+multiple_small m a lm la = let h : m * a ≤ 63 * 63 = mul-le-mul {n₂ = 63} {m₂ = 63} (omega arith) (omega arith) in omega arith
 
--- **one step makes the places greater by less than 2^10**
-pub places_grow : (m b : ℕ) (f xs ys : List ℕ) → m < 32 → All (λ x. x < 32) f → length xs ≤ length f → length ys ≡ length xs
+-- **one step makes the places greater by less than 2^12**
+pub places_grow : (m b : ℕ) (f xs ys : List ℕ) → m < 64 → All (λ x. x < 64) f → length xs ≤ length f → length ys ≡ length xs
     → ((k : ℕ) → k < length xs → slice_index ys k ≡ slice_index (0 ∷ xs) k + m * slice_index f k)
-    → All (λ x. x < b) xs → All (λ x. x < b + 1024) ys
-places_grow m b f xs ys small v sizes same at h = All-from_get_or (λ x. x < b + 1024) ys 0
+    → All (λ x. x < b) xs → All (λ x. x < b + 4096) ys
+places_grow m b f xs ys small v sizes same at h = All-from_get_or (λ x. x < b + 4096) ys 0
     (λ k l. let lk : k < length xs = omega arith in
-    let a : slice_index f k < 32 = All-get_or (λ x. x < 32) f k 0 (omega arith) v in
+    let a : slice_index f k < 64 = All-get_or (λ x. x < 64) f k 0 (omega arith) v in
     omega (arith, at k lk, shifted_small b xs h k lk, multiple_small m (slice_index f k) small a))

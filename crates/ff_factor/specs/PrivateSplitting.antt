@@ -1,6 +1,7 @@
 -- What the clauses of splitting and factoring speak of. Only contracts of functions that aren't public cite this module.
 --     IsFinding f s            a proper factor, or a certificate that there is none
 --     IsNonzeroKernelColumn p m x     a column that isn't zero and that m sends to zero
+--     IsLeastNegativeRoot p f c     c is the least residue with f(-c) = 0 modulo p
 --     IsCofactor c f g q       f = q * g, both smaller than f
 --     IsPowerOfVariable f k c  c are coefficients of x^(k p) modulo f, no more than deg f
 --     residues_modulo p xs     the numbers xs modulo p
@@ -10,7 +11,7 @@ use Rattle.std.specs.Prelude.{◌≡◌, ◌≢◌, ℕ, ◌+◌, ◌*◌, ◌%�
 use Rattle.std.specs.List.Sorted.{IsSorted}
 use Rattle.std.specs.Ordering.{nat_cmp}
 use Rattle.alg_model.specs.Coefficients.{Carrier, residues, mod_ops}
-use Rattle.alg_model.specs.Polynomials.{poly_product, poly_power}
+use Rattle.alg_model.specs.Polynomials.{poly_product, poly_power, evaluate}
 use Rattle.alg_model.specs.Values.{degree, remainder}
 use Rattle.alg_model.specs.Factors.{IsPolynomial, IsMonic, IsProperFactor, IsIrreducible, order_by}
 use Rattle.alg_model.specs.Matrices.{Matrix, IsColumn, matrix_apply, zero_column}
@@ -31,6 +32,11 @@ pub record IsNonzeroKernelColumn (p : ℕ) (m : Matrix ℕ) (x : List ℕ) : Typ
   pub column : IsColumn (residues p) (length m.columns) x
   pub sent : matrix_apply (mod_ops p) m x ≡ zero_column (mod_ops p) m.rows
   pub not_zero : x ≢ zero_column (mod_ops p) (length m.columns)
+
+pub record IsLeastNegativeRoot (p : ℕ) (f : List ℕ) (c : ℕ) : Type 0 where
+  pub residue : c < p
+  pub root : evaluate (mod_ops p) f ((mod_ops p).neg c) ≡ 0
+  pub first : (d : ℕ) → d < c → evaluate (mod_ops p) f ((mod_ops p).neg d) ≢ 0
 
 pub record IsCofactor {A : Type 0} (c : Carrier A) (f g q : List A) : Type 0 where
   pub polynomial : IsPolynomial c q

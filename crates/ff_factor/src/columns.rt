@@ -66,7 +66,7 @@ fn multiply_by_power(places: &mut [u32], f: &Poly)
     requires places { length places.old ≡ degree f.now.coefficients }
     requires small { All (λ x. x < 2 ^ 30) places.old }
     ensures places { length places.new ≡ length places.old }
-    ensures growth { (b : ℕ) → All (λ x. x < b) places.old → All (λ x. x < b + 2 ^ 15) places.new }
+    ensures growth { (b : ℕ) → All (λ x. x < b) places.old → All (λ x. x < b + 2 ^ 18) places.new }
     ensures power { (e : ℕ) → ArePlacesOfPower f.now e places.old → ArePlacesOfPower f.now (e + f.now.prime) places.new }
 {
     let p = f.prime();
@@ -82,7 +82,7 @@ fn multiply_by_variable(places: &mut [u32], f: &[u8], p: Prime)
     requires residues { All (λ x. x < p) f.now }
     requires small { All (λ x. x < 2 ^ 31) places.old }
     ensures places { length places.new ≡ length places.old }
-    ensures growth { (b : ℕ) → All (λ x. x < b) places.old → All (λ x. x < b + 2 ^ 10) places.new }
+    ensures growth { (b : ℕ) → All (λ x. x < b) places.old → All (λ x. x < b + 2 ^ 12) places.new }
     ensures product { residues_modulo p places.new ≡ times_x (mod_ops p) f.now (residues_modulo p places.old) }
 {
     let number = p.number() as u32;

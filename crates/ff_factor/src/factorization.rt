@@ -9,6 +9,7 @@ ghost use Rattle.ff_poly.specs.Polynomial.{Polynomial};
 ghost use Rattle.ff_factor.specs.FactorLists.{AreOver, coefficients_of};
 ghost use Rattle.ff_factor.specs.PrivateSplitting.{Collects, IsCofactor};
 
+use crate::linear::linear_factor;
 use crate::splitting::{Finding, split};
 use arrayvec::ArrayVec;
 use ff_poly::{MAX_DEGREE, Poly};
@@ -86,6 +87,12 @@ pub(crate) fn collect(f: &Poly, list: &mut FactorList)
     requires primes { AreOver f.now.prime list.old }
     ensures { Collects f.now list.old list.new }
 {
+    if let Some(factor) = linear_factor(f) {
+        let rest = cofactor(f, &factor);
+        list.add(&factor);
+        collect(&rest, list);
+        return;
+    }
     match split(f) {
         Finding::Irreducible(_) => list.add(f),
         Finding::Divisor(divisor) => {

@@ -7,6 +7,7 @@
 mod certificates;
 mod columns;
 mod factorization;
+mod linear;
 mod polynomials;
 mod splitting;
 #[cfg(test)]

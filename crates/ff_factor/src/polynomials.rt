@@ -65,7 +65,7 @@ fn after_zero(c: &[u8]) -> ArrayVec<u8, MAX_POLY>
 /// The numbers at 0, `step`, `2 * step`, and so on.
 pub(crate) fn every(c: &[u8], step: usize) -> ArrayVec<u8, MAX_POLY>
     requires room { length c.now ≤ MAX_POLY }
-    requires step { (0 < step) × (step < 32) }
+    requires step { (0 < step) × (step < 64) }
     ensures room { length result.items ≤ MAX_POLY }
     ensures places { (k : ℕ) → slice_index result.items k ≡ slice_index c.now (k * step) }
 {

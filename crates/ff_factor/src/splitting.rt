@@ -29,13 +29,35 @@ pub(crate) enum Finding {
 
 /// A proper factor of `f`, or a certificate that there is none (Berlekamp 1970).
 ///
-/// A polynomial with derivative 0 is a power `p`, and what it has in common with another derivative is a factor. Of the rest, it
-/// is irreducible exactly if only constants `v` have `v^p = v` modulo `f`; another such `v` has a factor in common with `f` when
-/// the right constant is taken off.
+/// Where some `v` that is no constant has `v^p = v` modulo `f`, it has a factor in common with `f` when the right constant is
+/// taken off, as `f` divides the product of all `v - c`. Where only constants have it, `f` is a power of an irreducible
+/// polynomial.
+#[inline(never)]
 pub(crate) fn split(f: &Poly) -> Finding
     requires monic { IsMonic (residues f.now.prime) f.now.coefficients }
     requires not_constant { 1 < length f.now.coefficients }
     requires degree { length f.now.coefficients ≤ MAX_DEGREE + 1 }
+    ensures { IsFinding f.now result }
+{
+    let matrix = matrix_in_turn(f);
+    let echelon = matrix.echelon();
+    match echelon.left_inverse() {
+        Some(left) => split_power(f, left),
+        None => Finding::Divisor(split_by_column(f, &kernel_column(&matrix, &echelon))),
+    }
+}
+
+// A proper factor of f, or a certificate that there is none, where the matrix of v -> v^p - v has this left inverse.
+//
+// A polynomial with derivative 0 is a power p, and what it has in common with another derivative is a factor.
+fn split_power(f: &Poly, left: Matrix) -> Finding
+    requires monic { IsMonic (residues f.now.prime) f.now.coefficients }
+    requires not_constant { 1 < length f.now.coefficients }
+    requires degree { length f.now.coefficients ≤ MAX_DEGREE + 1 }
+    requires prime { left.prime ≡ f.now.prime }
+    requires columns { length left.matrix.columns ≡ degree f.now.coefficients }
+    requires left_inverse { let o = mod_ops f.now.prime in
+        matrix_product o left.matrix (berlekamp_matrix o f.now.prime f.now.coefficients) ≡ identity_matrix o (degree f.now.coefficients - 1) }
     ensures { IsFinding f.now result }
 {
     let derivative = f.derivative();
@@ -46,12 +68,7 @@ pub(crate) fn split(f: &Poly) -> Finding
     if bezout.g.coefficients().len() > 1 {
         return Finding::Divisor(bezout.g);
     }
-    let matrix = matrix_in_turn(f);
-    let echelon = matrix.echelon();
-    match echelon.left_inverse() {
-        Some(left) => Finding::Irreducible(certificate(f, bezout.u, bezout.w, left)),
-        None => Finding::Divisor(split_by_column(f, &kernel_column(&matrix, &echelon))),
-    }
+    Finding::Irreducible(certificate(f, bezout.u, bezout.w, left))
 }
 
 // The polynomial whose power p is f, where f has derivative 0.

@@ -1,4 +1,4 @@
-//! Examples: factorizations that were computed with SymPy.
+//! Examples: factorizations that were computed with SymPy, and those of degree 48 with PARI.
 ghost use Rattle.std.specs.Prelude.{◌+◌, ◌<◌, ◌≤◌, length};
 ghost use Rattle.alg_model.specs.Coefficients.{residues};
 ghost use Rattle.alg_model.specs.Factors.{IsMonic};
@@ -29,7 +29,7 @@ struct Factorization {
     factors: &'static [&'static [u8]],
 }
 
-const FACTORIZATIONS: [Factorization; 5] = [
+const FACTORIZATIONS: [Factorization; 10] = [
     Factorization {
         p: 31,
         polynomial: &[
@@ -87,6 +87,122 @@ const FACTORIZATIONS: [Factorization; 5] = [
             1,
         ]],
     },
+    Factorization {
+        p: 61,
+        polynomial: &[
+            1, 52, 60, 33, 17, 47, 7, 13, 15, 22, 51, 59, 8, 2, 13, 52, 36, 54, 6, 32, 20, 51, 38,
+            59, 39, 54, 10, 34, 6, 51, 51, 39, 43, 58, 8, 21, 16, 5, 11, 58, 17, 51, 8, 58, 57, 30,
+            23, 10, 1,
+        ],
+        factors: &[&[
+            1, 52, 60, 33, 17, 47, 7, 13, 15, 22, 51, 59, 8, 2, 13, 52, 36, 54, 6, 32, 20, 51, 38,
+            59, 39, 54, 10, 34, 6, 51, 51, 39, 43, 58, 8, 21, 16, 5, 11, 58, 17, 51, 8, 58, 57, 30,
+            23, 10, 1,
+        ]],
+    },
+    Factorization {
+        p: 61,
+        polynomial: &[
+            52, 1, 4, 22, 55, 3, 45, 47, 4, 32, 3, 55, 7, 53, 25, 20, 6, 2, 45, 53, 46, 27, 51, 56,
+            23, 3, 10, 40, 50, 3, 11, 60, 3, 2, 12, 12, 60, 18, 35, 54, 54, 11, 22, 22, 52, 8, 40,
+            21, 1,
+        ],
+        factors: &[
+            &[
+                29, 55, 24, 54, 45, 14, 42, 18, 20, 41, 37, 49, 45, 53, 53, 9, 20, 12, 48, 18, 21,
+                8, 38, 10, 1,
+            ],
+            &[
+                6, 16, 9, 35, 32, 9, 16, 8, 38, 23, 12, 15, 32, 35, 10, 5, 35, 11, 1, 52, 50, 52,
+                14, 11, 1,
+            ],
+        ],
+    },
+    Factorization {
+        p: 59,
+        polynomial: &[
+            8, 17, 24, 53, 50, 11, 57, 43, 6, 19, 11, 36, 8, 31, 36, 36, 23, 16, 48, 27, 7, 56, 40,
+            33, 22, 2, 32, 38, 56, 0, 4, 12, 10, 35, 18, 7, 37, 57, 43, 57, 23, 23, 21, 51, 44, 30,
+            37, 1, 1,
+        ],
+        factors: &[
+            &[3, 1],
+            &[58, 1],
+            &[58, 1],
+            &[10, 37, 1],
+            &[6, 56, 21, 41, 21, 48, 6, 1],
+            &[42, 29, 35, 1, 11, 18, 46, 1],
+            &[
+                1, 32, 15, 9, 8, 7, 1, 43, 38, 14, 39, 16, 4, 50, 3, 48, 48, 16, 27, 13, 30, 2, 52,
+                44, 17, 55, 15, 23, 29, 1,
+            ],
+        ],
+    },
+    Factorization {
+        p: 2,
+        polynomial: &[
+            1, 1, 0, 0, 0, 0, 0, 0, 0, 1, 0, 0, 0, 0, 0, 1, 1, 0, 0, 1, 0, 1, 0, 1, 1, 0, 1, 1, 1,
+            0, 1, 0, 1, 0, 0, 0, 1, 0, 0, 0, 1, 1, 0, 0, 1, 1, 0, 1, 1,
+        ],
+        factors: &[
+            &[1, 0, 0, 0, 0, 1, 1, 0, 1, 0, 0, 0, 1],
+            &[1, 0, 0, 0, 0, 1, 1, 0, 1, 0, 0, 0, 1],
+            &[
+                1, 1, 0, 0, 0, 0, 0, 0, 0, 1, 1, 1, 1, 1, 0, 1, 0, 1, 0, 0, 1, 1, 0, 1, 1,
+            ],
+        ],
+    },
+    Factorization {
+        p: 43,
+        polynomial: &[
+            14, 14, 20, 15, 42, 29, 2, 31, 20, 6, 33, 40, 5, 23, 19, 10, 12, 38, 37, 24, 3, 31, 20,
+            6, 33, 40, 5, 23, 19, 10, 12, 38, 37, 24, 3, 31, 20, 6, 33, 40, 5, 23, 5, 39, 35, 23,
+            38, 38, 1,
+        ],
+        factors: &[
+            &[1, 1],
+            &[2, 1],
+            &[3, 1],
+            &[4, 1],
+            &[5, 1],
+            &[6, 1],
+            &[7, 1],
+            &[8, 1],
+            &[9, 1],
+            &[10, 1],
+            &[11, 1],
+            &[12, 1],
+            &[13, 1],
+            &[14, 1],
+            &[15, 1],
+            &[17, 1],
+            &[18, 1],
+            &[19, 1],
+            &[20, 1],
+            &[21, 1],
+            &[22, 1],
+            &[23, 1],
+            &[24, 1],
+            &[25, 1],
+            &[26, 1],
+            &[28, 1],
+            &[29, 1],
+            &[30, 1],
+            &[31, 1],
+            &[32, 1],
+            &[33, 1],
+            &[34, 1],
+            &[35, 1],
+            &[36, 1],
+            &[37, 1],
+            &[38, 1],
+            &[39, 1],
+            &[40, 1],
+            &[41, 1],
+            &[42, 1],
+            &[15, 15, 32, 42, 25, 13, 40, 38, 1],
+        ],
+    },
 ];
 
 #[test]
@@ -97,6 +213,26 @@ fn factorizations(rt: HostRuntime) {
         assert_eq!(rt; found.items().len(), case.factors.len());
         for (factor, expected) in found.items().iter().zip(case.factors) {
             assert_eq!(rt; factor.coefficients(), *expected);
+        }
+    }
+}
+
+#[test]
+fn verdicts(rt: HostRuntime) {
+    for case in &FACTORIZATIONS {
+        let f = monic(&rt, case.p, case.polynomial);
+        match judge(&f) {
+            Verdict::Irreducible(cert) => {
+                assert_eq!(rt; case.factors.len(), 1);
+                assert!(rt; check(&f, &cert));
+            }
+            Verdict::Reducible {
+                factor,
+                cofactor: _,
+            } => {
+                assert!(rt; case.factors.len() > 1);
+                assert_eq!(rt; factor.coefficients(), case.factors[0]);
+            }
         }
     }
 }

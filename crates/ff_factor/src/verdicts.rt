@@ -6,6 +6,7 @@ ghost use Rattle.alg_model.specs.Factors.{IsMonic, IsProperFactor, IsLeastFactor
 ghost use Rattle.ff_factor.specs.Certificates.{IsVerdict};
 
 use crate::factorization::{cofactor, collect};
+use crate::linear::linear_factor;
 use crate::splitting::{Finding, split};
 use crate::{Cert, FactorList};
 use ff_poly::{MAX_DEGREE, Poly};
@@ -28,7 +29,7 @@ pub enum Verdict {
 
 /// Judges whether `f` is irreducible.
 ///
-/// `f` is monic, of degree 1 to `MAX_DEGREE`. A reducible one is factored by Berlekamp's method (Berlekamp 1970; Knuth, The Art
+/// `f` is monic, of degree 1 to `MAX_DEGREE`. A factor of degree 1 is the least one outright. Else a reducible one is factored by Berlekamp's method (Berlekamp 1970; Knuth, The Art
 /// of Computer Programming 2, section 4.6.2, algorithm B).
 pub fn judge(f: &Poly) -> Verdict
     requires monic { IsMonic (residues f.now.prime) f.now.coefficients }
@@ -36,14 +37,24 @@ pub fn judge(f: &Poly) -> Verdict
     requires degree { length f.now.coefficients ≤ MAX_DEGREE + 1 }
     ensures { IsVerdict f.now result }
 {
+    if let Some(factor) = linear_factor(f) {
+        return reducible(f, factor);
+    }
     match split(f) {
         Finding::Irreducible(cert) => Verdict::Irreducible(cert),
-        Finding::Divisor(divisor) => {
-            let factor = least_factor(f, &divisor);
-            let cofactor = cofactor(f, &factor);
-            Verdict::Reducible { factor, cofactor }
-        }
+        Finding::Divisor(divisor) => reducible(f, least_factor(f, &divisor)),
     }
+}
+
+// The verdict on f, which has this least factor.
+fn reducible(f: &Poly, factor: Poly) -> Verdict
+    requires monic { IsMonic (residues f.now.prime) f.now.coefficients }
+    requires prime { factor.prime ≡ f.now.prime }
+    requires least { IsLeastFactor (residues f.now.prime) nat_cmp f.now.coefficients factor.coefficients }
+    ensures { IsVerdict f.now result }
+{
+    let cofactor = cofactor(f, &factor);
+    Verdict::Reducible { factor, cofactor }
 }
 
 // The least factor of f, which has this proper factor.

@@ -19,7 +19,6 @@ use Rattle.alg_linear.proofs.CarrierMatrices.{delta_value}
 use Rattle.alg_linear.specs.PrivateElimination.{IsEliminated, row_entries}
 use Rattle.alg_linear.proofs.MatrixEntries.{entries}
 use Rattle.alg_linear.proofs.Echelons.{reduction_lists}
-use Rattle.ff_matrix.specs.declared.TheConstants.{MAX_WIDTH}
 use Rattle.ff_poly.proofs.Characteristics.{characteristic_small}
 use Rattle.ff_matrix.specs.ModularMatrix.{IsModularMatrix}
 use Rattle.ff_matrix.specs.PrivateRows.{AreRows, IsAugmented, Eliminates}
@@ -40,24 +39,24 @@ block_entry : (p : ℕ) (rows : List (List ℕ)) (start count i j : ℕ) → i <
 block_entry p rows start count i j li lj = ap (λ x. get_or x i 0) (block_column rows start count j lj)
     ∙ get_or-map (λ row. get_or row (start + j) 0) rows i [] 0 li
 
-block_valid : (p : ℕ) (rows : List (List ℕ)) (start count : ℕ) → AreRows p rows → start + count ≤ MAX_WIDTH → IsMatrix (residues p) (block rows start count)
-block_valid p rows start count v fits = All-from_get_or (IsColumn (residues p) (length rows)) (block rows start count).columns []
+block_valid : (w p : ℕ) (rows : List (List ℕ)) (start count : ℕ) → AreRows w p rows → start + count ≤ w → IsMatrix (residues p) (block rows start count)
+block_valid w p rows start count v fits = All-from_get_or (IsColumn (residues p) (length rows)) (block rows start count).columns []
     (λ j l. let lj : j < count = omega (arith, length_block rows start count) in
     subst (IsColumn (residues p) (length rows)) (sym (block_column rows start count j lj)) (
       length-map rows (λ row. get_or row (start + j) 0),
       All-from_get_or (λ x. x < p) (map (λ row. get_or row (start + j) 0) rows) 0
           (λ i li. let lr : i < length rows = omega (arith, length-map rows (λ row. get_or row (start + j) 0)) in
-          let w : IsColumn (residues p) MAX_WIDTH (get_or rows i []) = v i [] lr in
+          let row : IsColumn (residues p) w (get_or rows i []) = v i [] lr in
           let Below : ℕ → Type 0 = λ x. x < p in
-          subst Below (sym (get_or-map (λ row. get_or row (start + j) 0) rows i [] 0 lr)) (w.1 (start + j) 0 (omega (arith, w.0)))),
+          subst Below (sym (get_or-map (λ row. get_or row (start + j) 0) rows i [] 0 lr)) (row.1 (start + j) 0 (omega (arith, row.0)))),
     ))
 
 -- the matrix beside the identity, reduced, is the form beside the transform
-pub reduction_from_rows : (p : ℕ) → 1 < p → (m : Matrix ℕ) → IsMatrix (residues p) m → (start rows : List (List ℕ)) (pivots : List ℕ)
-    → length m.columns + m.rows ≤ MAX_WIDTH → AreRows p rows
-    → IsAugmented p m start → Eliminates p (length m.columns) start rows pivots
+pub reduction_from_rows : (w p : ℕ) → 1 < p → (m : Matrix ℕ) → IsMatrix (residues p) m → (start rows : List (List ℕ)) (pivots : List ℕ)
+    → length m.columns + m.rows ≤ w → AreRows w p rows
+    → IsAugmented w p m start → Eliminates w p (length m.columns) start rows pivots
     → IsReduction (residues p) m (block rows 0 (length m.columns)) (block rows (length m.columns) (length rows)) pivots
-reduction_from_rows p h m wm start rows pivots fits v a eliminates =
+reduction_from_rows w p h m wm start rows pivots fits v a eliminates =
     reduction_lists P R m form transform wm wf wt pivots count (length_block rows 0 width) count (length_block rows width (length rows) ∙ count)
     (transformed_same B n width M (λ i j. Y i j) (λ i l. Y i (width + l)) (entries R form wf) (entries R transform wt)
     (transformed_from_augmented L n width M X Y
@@ -91,7 +90,7 @@ reduction_from_rows p h m wm start rows pivots fits v a eliminates =
     width : ℕ
     width = length m.columns
 
-    g : IsEliminated R MAX_WIDTH (length start) width start rows pivots
+    g : IsEliminated R w (length start) width start rows pivots
     g = eliminates h
 
     count : length rows ≡ n
@@ -104,32 +103,32 @@ reduction_from_rows p h m wm start rows pivots fits v a eliminates =
     transform = block rows width (length rows)
 
     wf : IsMatrix c form
-    wf = block_valid p rows 0 width v (omega arith)
+    wf = block_valid w p rows 0 width v (omega arith)
 
     wt : IsMatrix c transform
-    wt = block_valid p rows width (length rows) v (omega (arith, count))
+    wt = block_valid w p rows width (length rows) v (omega (arith, count))
 
     M : ℕ → ℕ → Element c
     M = entries R m wm
 
     X : ℕ → ℕ → Element c
-    X = row_entries R MAX_WIDTH start g.valid_start
+    X = row_entries R w start g.valid_start
 
     Y : ℕ → ℕ → Element c
-    Y = row_entries R MAX_WIDTH rows g.valid
+    Y = row_entries R w rows g.valid
 
 -- the same from what the functions say of the prime, the sizes and the two blocks
-pub reduction_read : (q p k : ℕ) (m : Matrix ℕ) (start rows : List (List ℕ)) (pivots : List ℕ) (form transform : Matrix ℕ)
+pub reduction_read : (w q p k : ℕ) (m : Matrix ℕ) (start rows : List (List ℕ)) (pivots : List ℕ) (form transform : Matrix ℕ)
     → q ≡ p → k ≡ length m.columns → IsModularMatrix (record { prime = p; matrix = m })
-    → IsAugmented p m start → AreRows q rows → Eliminates q k start rows pivots
+    → length m.columns + m.rows ≤ w → IsAugmented w p m start → AreRows w q rows → Eliminates w q k start rows pivots
     → form.rows ≡ length rows → form.columns ≡ map (λ k. map (λ row. get_or row k 0) rows) (range_with_len 0 k)
     → transform.rows ≡ length rows → transform.columns ≡ map (λ k. map (λ row. get_or row k 0) rows) (range_with_len k (length rows))
     → IsReduction (residues p) m form transform pivots
-reduction_read q p k m start rows pivots form transform same width whole a v eliminates fr fc tr tc =
+reduction_read w q p k m start rows pivots form transform same width whole fits a v eliminates fr fc tr tc =
     subst Reduces form_is (subst (λ t. IsReduction (residues p) m (block rows 0 (length m.columns)) t pivots) transform_is
-    (reduction_from_rows p (characteristic_small p whole.characteristic).0 m whole.entries start rows pivots
-    (omega (arith, whole.rows_fit, whole.columns_fit)) (subst (λ r. AreRows r rows) same v) a
-    (subst (λ r. Eliminates r (length m.columns) start rows pivots) same (subst (λ w. Eliminates q w start rows pivots) width eliminates))))
+    (reduction_from_rows w p (characteristic_small p whole.characteristic).0 m whole.entries start rows pivots
+    fits (subst (λ r. AreRows w r rows) same v) a
+    (subst (λ r. Eliminates w r (length m.columns) start rows pivots) same (subst (λ n. Eliminates w q n start rows pivots) width eliminates))))
   where
     Reduces : Matrix ℕ → Type 0
     Reduces d = IsReduction (residues p) m d transform pivots

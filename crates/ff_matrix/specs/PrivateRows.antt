@@ -1,20 +1,19 @@
 -- What the clauses of the elimination speak of; no public clause cites these.
---     AreRows p rows                   rows of MAX_WIDTH numbers below p
+--     AreRows w p rows                 rows of w numbers below p
 --     IsCleared o m r rows new         to each row but r that multiple of row r is added which makes its entry in column m zero
 --     ArePlaces n places               rising numbers below n
 --     IsKernelColumn p form pivots f x     x is one at f, and - form_(i, f) at the pivot of row i
---     IsAugmented p m rows             the rows of m beside the identity
---     Eliminates p m start rows pivots     rows come from start by an invertible matrix, and their first m columns are reduced
+--     IsAugmented w p m rows           the rows of m beside the identity
+--     Eliminates w p m start rows pivots     rows come from start by an invertible matrix, and their first m columns are reduced
 use Rattle.std.specs.Prelude.{◌≡◌, ◌≢◌, ℕ, ◌+◌, ◌<◌, ◌==◌, if◌then◌else◌, List, [], length, All, slice_index, slice_index_or}
 use Rattle.alg_model.specs.Coefficients.{Ops, residues, mod_ops}
 use Rattle.alg_model.specs.Polynomials.{sum, scale}
 use Rattle.alg_model.specs.Matrices.{Matrix, entry, IsColumn}
 use Rattle.alg_rings.proofs.Residues.{residues_ring}
 use Rattle.alg_linear.specs.PrivateElimination.{IsEliminated}
-use Rattle.ff_matrix.specs.declared.TheConstants.{MAX_WIDTH}
 
-abbrev pub AreRows : ℕ → List (List ℕ) → Type 0
-AreRows p rows = All (IsColumn (residues p) MAX_WIDTH) rows
+abbrev pub AreRows : ℕ → ℕ → List (List ℕ) → Type 0
+AreRows w p rows = All (IsColumn (residues p) w) rows
 
 pub record IsCleared {A : Type 0} (o : Ops A) (m r : ℕ) (rows new : List (List A)) : Type 0 where
   pub pivot_row : slice_index_or new r [] ≡ slice_index_or rows r []
@@ -22,13 +21,13 @@ pub record IsCleared {A : Type 0} (o : Ops A) (m r : ℕ) (rows new : List (List
       → slice_index_or new i []
       ≡ sum o (scale o (o.neg (slice_index_or (slice_index_or rows i []) m o.zero)) (slice_index_or rows r [])) (slice_index_or rows i [])
 
-abbrev pub Eliminates : ℕ → ℕ → List (List ℕ) → List (List ℕ) → List ℕ → Type 0
-Eliminates p m start rows pivots = (h : 1 < p) → IsEliminated (residues_ring p h) MAX_WIDTH (length start) m start rows pivots
+abbrev pub Eliminates : ℕ → ℕ → ℕ → List (List ℕ) → List (List ℕ) → List ℕ → Type 0
+Eliminates w p m start rows pivots = (h : 1 < p) → IsEliminated (residues_ring p h) w (length start) m start rows pivots
 
 -- the rows of m, and beside them those of the identity
-pub record IsAugmented (p : ℕ) (m : Matrix ℕ) (rows : List (List ℕ)) : Type 0 where
+pub record IsAugmented (w p : ℕ) (m : Matrix ℕ) (rows : List (List ℕ)) : Type 0 where
   pub count : length rows ≡ m.rows
-  pub residues : AreRows p rows
+  pub residues : AreRows w p rows
   pub left : (i k : ℕ) → i < m.rows → k < length m.columns → slice_index (slice_index_or rows i []) k ≡ entry (mod_ops p) m i k
   pub right : (i k : ℕ) → i < m.rows → k < m.rows → slice_index (slice_index_or rows i []) (length m.columns + k) ≡ (if i == k then 1 else 0)
 

@@ -7,7 +7,7 @@ ghost use Rattle.ff_matrix.specs.Echelons.{IsEchelonOf};
 ghost use Rattle.ff_matrix.specs.ModularMatrix.{IsModularMatrix};
 ghost use Rattle.ff_matrix.specs.PrivateRows.{AreRows, IsAugmented};
 
-use crate::elimination::{Row, reduce};
+use crate::elimination::reduce;
 use crate::{Column, ColumnList, MAX_WIDTH, Matrix};
 use ff_poly::{MAX_DEGREE, Prime};
 
@@ -27,15 +27,37 @@ impl Matrix {
     pub fn echelon(&self) -> Echelon
         ensures { IsEchelonOf self.now result }
     {
-        let rows = self.rows();
-        let mut room = [[0; MAX_WIDTH]; MAX_DEGREE];
-        echelon_in(self, &mut room[..rows])
+        let width = self.columns() + self.rows();
+        if width <= 16 {
+            echelon_of::<16>(self)
+        } else if width <= 32 {
+            echelon_of::<32>(self)
+        } else if width <= 48 {
+            echelon_of::<48>(self)
+        } else if width <= 64 {
+            echelon_of::<64>(self)
+        } else {
+            echelon_of::<MAX_WIDTH>(self)
+        }
     }
 }
 
-// The reduced row echelon form, worked out in these rows.
-fn echelon_in(m: &Matrix, rows: &mut [Row]) -> Echelon
-    requires { length rows.old ≡ m.now.matrix.rows }
+// The reduced row echelon form, worked out in rows of W numbers.
+fn echelon_of<const W: usize>(m: &Matrix) -> Echelon
+    requires width { W ≤ MAX_WIDTH }
+    requires room { length m.now.matrix.columns + m.now.matrix.rows ≤ W }
+    ensures { IsEchelonOf m.now result }
+{
+    let rows = m.rows();
+    let mut room = [[0; W]; MAX_DEGREE];
+    echelon_in(m, &mut room[..rows])
+}
+
+// The same in these rows.
+fn echelon_in<const W: usize>(m: &Matrix, rows: &mut [[u8; W]]) -> Echelon
+    requires width { W ≤ MAX_WIDTH }
+    requires room { length m.now.matrix.columns + m.now.matrix.rows ≤ W }
+    requires rows { length rows.old ≡ m.now.matrix.rows }
     ensures { IsEchelonOf m.now result }
 {
     let (p, columns) = (m.prime(), m.columns());
@@ -49,9 +71,11 @@ fn echelon_in(m: &Matrix, rows: &mut [Row]) -> Echelon
 }
 
 // Makes the rows those of the matrix, and beside them those of the identity.
-fn augment(m: &Matrix, rows: &mut [Row])
-    requires { length rows.old ≡ m.now.matrix.rows }
-    ensures { IsAugmented m.now.prime m.now.matrix rows.new }
+fn augment<const W: usize>(m: &Matrix, rows: &mut [[u8; W]])
+    requires width { W ≤ MAX_WIDTH }
+    requires room { length m.now.matrix.columns + m.now.matrix.rows ≤ W }
+    requires rows { length rows.old ≡ m.now.matrix.rows }
+    ensures { IsAugmented W m.now.prime m.now.matrix rows.new }
 {
     for i in 0..rows.len() {
         rows[i] = augmented_row(m, i);
@@ -59,9 +83,11 @@ fn augment(m: &Matrix, rows: &mut [Row])
 }
 
 // Row i of the matrix, and beside it row i of the identity.
-fn augmented_row(m: &Matrix, i: usize) -> Row
-    requires { i < m.now.matrix.rows }
-    ensures row { IsColumn (residues m.now.prime) MAX_WIDTH result }
+fn augmented_row<const W: usize>(m: &Matrix, i: usize) -> [u8; W]
+    requires width { W ≤ MAX_WIDTH }
+    requires room { length m.now.matrix.columns + m.now.matrix.rows ≤ W }
+    requires row { i < m.now.matrix.rows }
+    ensures row { IsColumn (residues m.now.prime) W result }
     ensures left { (k : ℕ) → k < length m.now.matrix.columns → slice_index result k ≡ entry (mod_ops m.now.prime) m.now.matrix i k }
     ensures right { (k : ℕ) → k < m.now.matrix.rows
         → slice_index result (length m.now.matrix.columns + k) ≡ (if i == k then 1 else 0) }
@@ -69,7 +95,7 @@ fn augmented_row(m: &Matrix, i: usize) -> Row
     let columns = m.columns();
     let _rows = m.rows();
     let _number = m.prime().number();
-    let mut row = blank_row();
+    let mut row = blank_row::<W>();
     for k in 0..columns {
         row[k] = m.at(i, k);
     }
@@ -78,18 +104,20 @@ fn augmented_row(m: &Matrix, i: usize) -> Row
 }
 
 // A row of zeros.
-fn blank_row() -> Row
-    ensures { result ≡ replicate MAX_WIDTH 0 }
+fn blank_row<const W: usize>() -> [u8; W]
+    requires { W ≤ MAX_WIDTH }
+    ensures { result ≡ replicate W 0 }
 {
-    [0; MAX_WIDTH]
+    [0; W]
 }
 
 // The matrix in `count` columns of the rows, from `start` on.
-fn block(p: Prime, rows: &[Row], start: usize, count: usize) -> Matrix
+fn block<const W: usize>(p: Prime, rows: &[[u8; W]], start: usize, count: usize) -> Matrix
     requires rows_fit { length rows.now ≤ MAX_DEGREE }
     requires count { count ≤ MAX_DEGREE }
-    requires within { start + count ≤ MAX_WIDTH }
-    requires residues { AreRows p rows.now }
+    requires width { W ≤ MAX_WIDTH }
+    requires within { start + count ≤ W }
+    requires residues { AreRows W p rows.now }
     ensures prime { result.prime ≡ p }
     ensures rows { result.matrix.rows ≡ length rows.now }
     ensures columns { result.matrix.columns ≡ map (λ k. map (λ row. slice_index row k) rows.now) (range_with_len start count) }
@@ -103,10 +131,11 @@ fn block(p: Prime, rows: &[Row], start: usize, count: usize) -> Matrix
 }
 
 // Column k of the rows.
-fn column_of(p: Prime, rows: &[Row], k: usize) -> Column
+fn column_of<const W: usize>(p: Prime, rows: &[[u8; W]], k: usize) -> Column
     requires rows_fit { length rows.now ≤ MAX_DEGREE }
-    requires within { k < MAX_WIDTH }
-    requires residues { AreRows p rows.now }
+    requires width { W ≤ MAX_WIDTH }
+    requires within { k < W }
+    requires residues { AreRows W p rows.now }
     ensures value { result ≡ map (λ row. slice_index row k) rows.now }
     ensures column { IsColumn (residues p) (length rows.now) result }
 {

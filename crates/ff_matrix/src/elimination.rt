@@ -1,6 +1,7 @@
 //! Gauss-Jordan elimination on the rows of a matrix beside the identity.
 ghost use Rattle.std.specs.Prelude.{◌≡◌, ◌≢◌, ℕ, ◌+◌, ◌<◌, ◌≤◌, List, [], ◌∷◌, ◌++◌, length, All, IsNone, IfSome, slice_index, slice_index_or, slice_set};
 ghost use Rattle.alg_model.specs.Coefficients.{residues, mod_ops, IsCharacteristic};
+ghost use Rattle.alg_model.specs.Polynomials.{sum, scale};
 ghost use Rattle.alg_model.specs.Matrices.{IsColumn};
 ghost use Rattle.ff_matrix.specs.PrivateRows.{AreRows, IsCleared, Eliminates};
 
@@ -8,12 +9,10 @@ use crate::places::{add_multiple, scale_places};
 use crate::{Column, MAX_WIDTH};
 use ff_poly::{MAX_DEGREE, Prime};
 
-/// A row of a matrix, and beside it a row of the identity.
-pub(crate) type Row = [u8; MAX_WIDTH];
-
 // The first row from `first` on with an entry in this column.
-fn find_pivot(rows: &[Row], first: usize, column: usize) -> Option<usize>
-    requires { column < MAX_WIDTH }
+fn find_pivot<const W: usize>(rows: &[[u8; W]], first: usize, column: usize) -> Option<usize>
+    requires width { W ≤ MAX_WIDTH }
+    requires column { column < W }
     ensures none { IsNone result → (i : ℕ) → first ≤ i → i < length rows.now
         → slice_index (slice_index_or rows.now i []) column ≡ 0 }
     ensures some { IfSome result (λ s. (first ≤ s) × (s < length rows.now)
@@ -27,32 +26,47 @@ fn find_pivot(rows: &[Row], first: usize, column: usize) -> Option<usize>
     None
 }
 
-// Adds to each row but `pivot` the multiple of that row which makes its entry in this column 0.
-fn clear_column(p: Prime, rows: &mut [Row], pivot: usize, column: usize)
+// Adds to the row the multiple of the source that makes its entry in this column 0.
+#[inline(always)]
+fn clear_row<const W: usize>(p: Prime, row: &mut [u8; W], source: &[u8; W], column: usize)
+    requires width { W ≤ MAX_WIDTH }
+    requires column { column < W }
+    requires row { All (λ x. x < p) row.old }
+    requires source { All (λ x. x < p) source.now }
+    ensures cleared { row.new ≡ sum (mod_ops p) (scale (mod_ops p) ((mod_ops p).neg (slice_index row.old column)) source.now) row.old }
+    ensures row { IsColumn (residues p) W row.new }
+{
+    let factor = p.neg(row[column]);
+    add_multiple(p, row, source, factor);
+}
+
+// Clears this column in each row but `pivot`.
+fn clear_column<const W: usize>(p: Prime, rows: &mut [[u8; W]], pivot: usize, column: usize)
+    requires width { W ≤ MAX_WIDTH }
     requires pivot { pivot < length rows.old }
-    requires column { column < MAX_WIDTH }
-    requires residues { AreRows p rows.old }
-    ensures rows { AreRows p rows.new }
+    requires column { column < W }
+    requires residues { AreRows W p rows.old }
+    ensures rows { AreRows W p rows.new }
     ensures cleared { IsCleared (mod_ops p) column pivot rows.old rows.new }
 {
     let source = rows[pivot];
     for i in 0..rows.len() {
         if i != pivot {
-            let factor = p.neg(rows[i][column]);
-            add_multiple(p, &mut rows[i], &source, factor);
+            clear_row(p, &mut rows[i], &source, column);
         }
     }
 }
 
 // Brings one more column to reduced form. The pivots so far are those of the columns before it.
-fn reduce_column(p: Prime, rows: &mut [Row], pivots: &mut Column, column: usize)
-    requires column { column < MAX_DEGREE }
+fn reduce_column<const W: usize>(p: Prime, rows: &mut [[u8; W]], pivots: &mut Column, column: usize)
+    requires width { W ≤ MAX_WIDTH }
+    requires column { (column < W) × (column < MAX_DEGREE) }
     requires pivots { length pivots.old ≤ column }
-    requires residues { AreRows p rows.old }
-    ensures rows { AreRows p rows.new }
+    requires residues { AreRows W p rows.old }
+    ensures rows { AreRows W p rows.new }
     ensures pivots { length pivots.new ≤ column + 1 }
-    ensures reduced { (start : List (List ℕ)) → Eliminates p column start rows.old pivots.old
-        → Eliminates p (column + 1) start rows.new pivots.new }
+    ensures reduced { (start : List (List ℕ)) → Eliminates W p column start rows.old pivots.old
+        → Eliminates W p (column + 1) start rows.new pivots.new }
 {
     let first = pivots.numbers().len();
     if let Some(s) = find_pivot(rows, first, column) {
@@ -65,11 +79,12 @@ fn reduce_column(p: Prime, rows: &mut [Row], pivots: &mut Column, column: usize)
 }
 
 // Brings the first columns to reduced row echelon form, and gives the pivot columns.
-pub(crate) fn reduce(p: Prime, rows: &mut [Row], columns: usize) -> Column
-    requires columns { columns ≤ MAX_DEGREE }
-    requires residues { AreRows p rows.old }
-    ensures rows { AreRows p rows.new }
-    ensures reduced { Eliminates p columns rows.old rows.new result }
+pub(crate) fn reduce<const W: usize>(p: Prime, rows: &mut [[u8; W]], columns: usize) -> Column
+    requires width { W ≤ MAX_WIDTH }
+    requires columns { (columns ≤ W) × (columns ≤ MAX_DEGREE) }
+    requires residues { AreRows W p rows.old }
+    ensures rows { AreRows W p rows.new }
+    ensures reduced { Eliminates W p columns rows.old rows.new result }
 {
     let mut pivots = Column::of_slice(&[]);
     for column in 0..columns {

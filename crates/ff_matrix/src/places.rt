@@ -6,12 +6,6 @@ ghost use Rattle.alg_model.specs.Polynomials.{sum, scale};
 use arrayvec::ArrayVec;
 use ff_poly::{MAX_DEGREE, Prime};
 
-// The numbers that `remainder` takes are below this.
-const MAX_SUM: u16 = 1024;
-
-// What a quotient by the reciprocal of a prime is divided by in the end.
-const SCALE: u32 = 65536;
-
 // Multiplies each place by the factor.
 pub(crate) fn scale_places(p: Prime, row: &mut [u8], factor: u8)
     requires residues { All (λ x. x < p) row.old }
@@ -19,13 +13,14 @@ pub(crate) fn scale_places(p: Prime, row: &mut [u8], factor: u8)
     ensures scaled { row.new ≡ scale (mod_ops p) factor row.old }
     ensures residues { All (λ x. x < p) row.new }
 {
-    let reciprocal = reciprocal(p);
+    let _number = p.number();
     for i in 0..row.len() {
-        row[i] = product_sum(p, reciprocal, factor, row[i], 0);
+        row[i] = p.reduced(factor as u16 * row[i] as u16) as u8;
     }
 }
 
 // Adds the factor times the source to the row, place by place.
+#[inline(always)]
 pub(crate) fn add_multiple(p: Prime, row: &mut [u8], source: &[u8], factor: u8)
     requires sizes { length row.old ≡ length source.now }
     requires row { All (λ x. x < p) row.old }
@@ -37,41 +32,10 @@ pub(crate) fn add_multiple(p: Prime, row: &mut [u8], source: &[u8], factor: u8)
     if factor == 0 {
         return;
     }
-    let reciprocal = reciprocal(p);
-    for i in 0..row.len() {
-        row[i] = product_sum(p, reciprocal, factor, source[i], row[i]);
-    }
-}
-
-// By what `remainder` multiplies in place of a division by p.
-fn reciprocal(p: Prime) -> u16
-    ensures { result ≡ 65535 / p + 1 }
-{
-    65535 / p.number() as u16 + 1
-}
-
-// The residue `a * b + c`.
-fn product_sum(p: Prime, reciprocal: u16, a: u8, b: u8, c: u8) -> u8
-    requires reciprocal { reciprocal ≡ 65535 / p + 1 }
-    requires factors { (a < p) × (b < p) }
-    requires addend { c < p }
-    ensures sum { result ≡ (mod_ops p).add ((mod_ops p).mul a b) c }
-    ensures residue { result < p }
-{
     let _number = p.number();
-    remainder(p, reciprocal, a as u16 * b as u16 + c as u16)
-}
-
-// The remainder of x modulo p, with no division.
-//
-// The quotient is exact: p * reciprocal is above SCALE by less than p, and x / p + 1 times that is below reciprocal.
-fn remainder(p: Prime, reciprocal: u16, x: u16) -> u8
-    requires reciprocal { reciprocal ≡ 65535 / p + 1 }
-    requires small { x < MAX_SUM }
-    ensures { result ≡ x % p }
-{
-    let quotient = (x as u32 * reciprocal as u32 / SCALE) as u16;
-    (x - quotient * p.number() as u16) as u8
+    for i in 0..row.len() {
+        row[i] = p.reduced(factor as u16 * source[i] as u16 + row[i] as u16) as u8;
+    }
 }
 
 // n zeros.

@@ -241,6 +241,6 @@ short_step a b u w g v x h q r m n y z k above quotient smaller shorter tm tn ym
         (cases_eq q 0) in
         omega arith
 
-pub short_room : (a b u w g v x h : ℕ) → Short a b u w g v x h → 0 < h → a ≤ 64 → b ≤ 64 → g ≤ 64
-    → (g + 1 - h + v ≤ 65) × (g + 1 - h + x ≤ 65)
+pub short_room : (a b u w g v x h : ℕ) → Short a b u w g v x h → 0 < h → a ≤ 128 → b ≤ 128 → g ≤ 128
+    → (g + 1 - h + v ≤ 129) × (g + 1 - h + x ≤ 129)
 short_room a b u w g v x h k above la lb lg = (omega (arith, k.first_after), omega (arith, k.second_after))

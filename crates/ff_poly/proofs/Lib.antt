@@ -1,4 +1,5 @@
 pub mod Characteristics
+pub mod Reciprocals
 pub mod ListPlaces
 pub mod Convolutions
 pub mod Quotients

@@ -38,6 +38,10 @@ other_factor p t x y h =
     let e : p - t + t ≡ p = omega arith in
     ap (λ w. w % p) (taken_off t (p - t) p x y e) ∙ add-mul-mod_self_left x p y
 
+-- a factor may be taken modulo p
+pub negative_multiple : (p u x y : ℕ) → (x + u % p * y) % p ≡ (x + u * y) % p
+negative_multiple p u x y = sym (add-mod-mod x (u % p * y) p) ∙ ap (λ w. (x + w) % p) (mul-mod_first u y p) ∙ add-mod-mod x (u * y) p
+
 sum_step : (p y n c r : ℕ) → (y + n) % p ≡ r % p → (y + c + n) % p ≡ (c + r) % p
 sum_step p y n c r e =
     let swapped : y + c + n ≡ y + n + c = omega arith in
@@ -66,11 +70,11 @@ pub record Divided (p degree steps at : ℕ) (q d rest f : List ℕ) : Type 0 wh
   pub division : (k : ℕ) → (convolution nat_ops (drop at q) d k + slice_index rest (at + k)) % p ≡ slice_index f (at + k) % p
   pub untouched : (k : ℕ) → k < at → slice_index rest k ≡ slice_index f k
   pub cleared : (k : ℕ) → at + degree ≤ k → slice_index rest k ≡ 0
-  pub small : (k : ℕ) → slice_index rest k + 65025 * at ≤ 65025 * steps + 255
+  pub rest_residues : (k : ℕ) → slice_index rest k < p
   pub residues : (k : ℕ) → slice_index q k < p
 
 pub start_division : (p degree steps : ℕ) (q d f : List ℕ)
-    → ((k : ℕ) → slice_index q k ≡ 0) → ((k : ℕ) → steps + degree ≤ k → slice_index f k ≡ 0) → ((k : ℕ) → slice_index f k < 256) → 1 < p
+    → ((k : ℕ) → slice_index q k ≡ 0) → ((k : ℕ) → steps + degree ≤ k → slice_index f k ≡ 0) → ((k : ℕ) → slice_index f k < p) → 1 < p
     → Divided p degree steps steps q d f f
 start_division p degree steps q d f blank within small above = record {
   steps_left = omega arith;
@@ -79,7 +83,7 @@ start_division p degree steps q d f blank within small above = record {
       ∙ ap (λ w. w % p) (zero-add (slice_index f (steps + k)));
   untouched = λ k h. refl;
   cleared = within;
-  small = λ k. let h : slice_index f k < 256 = small k in omega arith;
+  rest_residues = small;
   residues = λ k. let h : slice_index q k ≡ 0 = blank k in omega arith;
 }
 
@@ -87,12 +91,11 @@ start_division p degree steps q d f blank within small above = record {
 module _ (p degree steps at t : ℕ) (q d rest added f : List ℕ)
     (known : Divided p degree steps (at + 1) q d rest f)
     (residue : t < p)
-    (size : p < 256)
-    (digits : (k : ℕ) → slice_index d k < 256)
     (last : length d ≤ degree + 1)
     (top : (t * slice_index d degree) % p ≡ slice_index rest (at + degree) % p)
     (below : (k : ℕ) → k < at → slice_index added k ≡ slice_index rest k)
-    (above : (k : ℕ) → slice_index added (at + k) ≡ slice_index rest (at + k) + (p - t) * slice_index d k)
+    (above : (k : ℕ) → slice_index added (at + k) % p ≡ (slice_index rest (at + k) + (p - t) * slice_index d k) % p)
+    (added_residues : (k : ℕ) → slice_index added k < p)
     (quotient_room : at < length q)
     (room : at + degree < length added)
   where
@@ -110,7 +113,10 @@ module _ (p degree steps at t : ℕ) (q d rest added f : List ℕ)
         ⊎_elim
         (λ e. subst (λ i. (t * slice_index d i + slice_index next (at + i)) % p ≡ slice_index rest (at + i) % p) (sym e)
         (ap (λ w. (t * slice_index d degree + w) % p) next_top ∙ ap (λ w. w % p) (add-zero (t * slice_index d degree)) ∙ top))
-        (λ e. ap (λ w. (t * slice_index d k + w) % p) (next_other (at + k) (omega arith) ∙ above k)
+        (λ e. ap (λ w. (t * slice_index d k + w) % p) (next_other (at + k) (omega arith))
+        ∙ sym (add-mod-mod (t * slice_index d k) (slice_index added (at + k)) p)
+        ∙ ap (λ w. (t * slice_index d k + w) % p) (above k)
+        ∙ add-mod-mod (t * slice_index d k) (slice_index rest (at + k) + (p - t) * slice_index d k) p
         ∙ other_factor p t (slice_index rest (at + k)) (slice_index d k) (omega arith))
         (cases_eq k degree)
 
@@ -128,21 +134,16 @@ module _ (p degree steps at t : ℕ) (q d rest added f : List ℕ)
         let past : slice_index d (k - at) ≡ 0 = get_or_past d (k - at) 0 (omega arith) in
         let gone : slice_index rest k ≡ 0 = known.cleared k (omega arith) in
         next_other k e
-        ∙ subst (λ i. slice_index added i ≡ slice_index rest i + (p - t) * slice_index d (k - at)) j (above (k - at))
-        ∙ ap₂ (λ v w. v + (p - t) * w) gone past ∙ zero-add ((p - t) * 0) ∙ mul-zero (p - t))
+        ∙ sym (mod-eq_of_lt (added_residues k))
+        ∙ subst (λ i. slice_index added i % p ≡ (slice_index rest i + (p - t) * slice_index d (k - at)) % p) j (above (k - at))
+        ∙ ap₂ (λ v w. (v + (p - t) * w) % p) gone past ∙ ap (λ w. w % p) (zero-add ((p - t) * 0) ∙ mul-zero (p - t)) ∙ zero-mod p)
         (cases_eq k (at + degree))
 
-    next_small : (k : ℕ) → slice_index next k + 65025 * at ≤ 65025 * steps + 255
-    next_small k =
-        let left : at + 1 ≤ steps = known.steps_left in
+    next_residues : (k : ℕ) → slice_index next k < p
+    next_residues k =
         ⊎_elim
-        (λ e. subst (λ i. slice_index next i + 65025 * at ≤ 65025 * steps + 255) (sym e) (omega (arith, next_top)))
-        (λ e.
-        let same = next_other k e in
-        let grown : slice_index added k + 65025 * at ≤ 65025 * steps + 255 = place_cases (λ i. slice_index added i + 65025 * at ≤ 65025 * steps + 255) at k
-        (λ h. omega (arith, below k h, known.small k))
-        (λ j. omega (arith, above j, known.small (at + j), mul-le (p - t) (slice_index d j) 255 255 (omega arith) (omega (arith, digits j)))) in
-        omega arith)
+        (λ e. subst (λ i. slice_index next i < p) (sym e) (omega (arith, next_top)))
+        (λ e. let same = next_other k e in omega (arith, added_residues k))
         (cases_eq k (at + degree))
 
     pub division_round : Divided p degree steps at (set q at t) d (set added (at + degree) 0) f
@@ -151,7 +152,7 @@ module _ (p degree steps at t : ℕ) (q d rest added f : List ℕ)
       division = next_division;
       untouched = λ k h. next_other k (omega arith) ∙ below k h ∙ known.untouched k (omega arith);
       cleared = next_cleared;
-      small = next_small;
+      rest_residues = next_residues;
       residues = λ k. ⊎_elim
           (λ e. subst (λ i. slice_index (set q at t) i < p) (sym e) (let s = get_or-set_same q at t 0 quotient_room in omega arith))
           (λ e. let s = get_or-set_other q at k t 0 e in omega (arith, known.residues k))

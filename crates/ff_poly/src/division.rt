@@ -5,7 +5,7 @@ ghost use Rattle.alg_model.specs.Factors.{IsDivision};
 ghost use Rattle.alg_model.specs.Polynomials.{product};
 ghost use Rattle.ff_poly.specs.Polynomial.{IsPoly};
 
-use crate::places::{add_multiple, blank_residues, places_of, poly_of_places};
+use crate::places::{add_multiple, blank_places, places_of, poly_of_places};
 use crate::{MAX_POLY, Poly, Prime};
 
 impl Poly {
@@ -30,7 +30,7 @@ impl Poly {
         }
         let p = self.prime();
         let mut rest = places_of(dividend);
-        let mut quotient = blank_residues();
+        let mut quotient = blank_places();
         divide(
             p,
             &mut rest,
@@ -46,30 +46,30 @@ impl Poly {
 }
 
 // Takes multiples of d off the places in rest, `steps` many and the highest first, and notes their factors in quotient.
-// A sum is reduced only where its place is the highest one left.
-fn divide(p: Prime, rest: &mut [u32], quotient: &mut [u8], d: &[u8], steps: usize)
+fn divide(p: Prime, rest: &mut [u8], quotient: &mut [u8], d: &[u8], steps: usize)
     requires divisor { 0 < length d.now }
     requires leading { slice_index d.now (length d.now - 1) ≢ 0 }
     requires residues { All (λ x. x < p) d.now }
     requires size { length rest.old ≤ MAX_POLY }
     requires room { steps + length d.now ≤ length rest.old + 1 }
     requires quotient_room { steps ≤ length quotient.old }
-    requires small { (k : ℕ) → slice_index rest.old k < 256 }
+    requires rest { All (λ x. x < p) rest.old }
     requires within { (k : ℕ) → steps + length d.now ≤ k + 1 → slice_index rest.old k ≡ 0 }
     requires blank { (k : ℕ) → slice_index quotient.old k ≡ 0 }
     ensures residues { All (λ x. x < p) quotient.new }
+    ensures rest { All (λ x. x < p) rest.new }
     ensures smaller { (k : ℕ) → length d.now ≤ k + 1 → slice_index rest.new k ≡ 0 }
     ensures division { (k : ℕ) → (slice_index (product (mod_ops p) quotient.new d.now) k + slice_index rest.new k) % p
         ≡ slice_index rest.old k % p }
 {
-    let number = p.number();
+    let _number = p.number();
     let degree = d.len() - 1;
     let inverse = p.inv(d[degree]);
     let mut at = steps;
     while at > 0 {
         at -= 1;
-        let factor = p.mul((rest[at + degree] % number as u32) as u8, inverse);
-        add_multiple(rest, at, (number - factor) as u32, d);
+        let factor = p.mul(rest[at + degree], inverse);
+        add_multiple(p, rest, at, p.neg(factor), d);
         rest[at + degree] = 0;
         quotient[at] = factor;
     }

@@ -1,5 +1,5 @@
 //! Evaluation of polynomials.
-ghost use Rattle.std.specs.Prelude.{◌≡◌, ◌<◌};
+ghost use Rattle.std.specs.Prelude.{◌≡◌, ◌<◌, All};
 ghost use Rattle.alg_model.specs.Coefficients.{mod_ops};
 ghost use Rattle.alg_model.specs.Polynomials.{evaluate};
 
@@ -18,16 +18,17 @@ impl Poly {
 
 // The value of the polynomial with the coefficients f at c.
 fn value_of(p: Prime, f: &[u8], c: u8) -> u8
-    requires { c < p }
+    requires residues { All (λ x. x < p) f.now }
+    requires point { c < p }
     ensures value { result ≡ evaluate (mod_ops p) f.now c }
     ensures residue { result < p }
 {
-    let number = p.number() as u32;
-    let mut value: u32 = 0;
+    let _number = p.number();
+    let mut value: u16 = 0;
     let mut n = f.len();
     while n > 0 {
         n -= 1;
-        value = (f[n] as u32 + c as u32 * value) % number;
+        value = p.reduced(f[n] as u16 + c as u16 * value);
     }
     value as u8
 }

@@ -20,21 +20,21 @@ mod tests;
 
 pub use divisors::Bezout;
 pub use polynomials::Poly;
-pub use primes::{CHARACTERISTICS, Prime};
+pub use primes::{CHARACTERISTICS, Prime, characteristics_in_order};
 
 /// The greatest degree of a field.
-pub const MAX_DEGREE: usize = 24;
+pub const MAX_DEGREE: usize = 48;
 
 /// The greatest number of coefficients of a polynomial over a prime field.
-pub const MAX_POLY: usize = 64;
+pub const MAX_POLY: usize = 128;
 
 /// The greatest number of coefficients of a polynomial over a field.
-pub const MAX_POLYX: usize = 49;
+pub const MAX_POLYX: usize = 97;
 
 /// The number of characteristics.
-pub const PRIMES: usize = 11;
+pub const PRIMES: usize = 18;
 
 /// The limits, as numbers.
 pub fn limits()
-    ensures { (MAX_DEGREE ≡ 24) × (MAX_POLY ≡ 64) × (MAX_POLYX ≡ 49) × (PRIMES ≡ 11) }
+    ensures { (MAX_DEGREE ≡ 48) × (MAX_POLY ≡ 128) × (MAX_POLYX ≡ 97) × (PRIMES ≡ 18) }
 {}

@@ -14,11 +14,12 @@ impl Poly {
         ensures sum { result.coefficients
             ≡ poly_sum (mod_ops self.now.prime) self.now.coefficients b.now.coefficients }
     {
+        let p = self.prime();
         let (first, second) = (self.coefficients(), b.coefficients());
         let mut places = places_of(first);
-        add_multiple(&mut places, 0, 1, second);
+        add_multiple(p, &mut places, 0, 1, second);
         let len = first.len().max(second.len());
-        poly_of_places(self.prime(), &places[..len])
+        poly_of_places(p, &places[..len])
     }
 
     /// The difference.
@@ -31,7 +32,7 @@ impl Poly {
         let p = self.prime();
         let (first, second) = (self.coefficients(), b.coefficients());
         let mut places = places_of(first);
-        add_multiple(&mut places, 0, (p.number() - 1) as u32, second);
+        add_multiple(p, &mut places, 0, p.number() - 1, second);
         let longest = first.len().max(second.len());
         poly_of_places(p, &places[..longest])
     }

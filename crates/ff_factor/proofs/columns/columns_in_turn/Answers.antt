@@ -36,7 +36,7 @@ loop-k-init c =
     let one : c.places_of_one-places.result.items ≡ 1 ∷ replicate d 0 = c.places_of_one-places.ensures ∙ ap (λ m. 1 ∷ replicate m 0) n in
     record {
       places = omega (arith, ap length one, length-replicate {A = ℕ} d 0, c.requires.not_constant);
-      small = subst (All (λ x. x < 2 ^ 15)) (sym one) (All-cons (λ x. x < 2 ^ 15) 1 (replicate d 0) (omega arith) (All-replicate (λ x. x < 2 ^ 15) d 0 (omega arith)));
+      small = subst (All (λ x. x < 2 ^ 18)) (sym one) (All-cons (λ x. x < 2 ^ 18) 1 (replicate d 0) (omega arith) (All-replicate (λ x. x < 2 ^ 18) d 0 (omega arith)));
       last = subst (ArePlacesOfPower f (0 * f.prime)) (sym one)
           (subst (λ e. ArePlacesOfPower f e (1 ∷ replicate d 0)) (sym (zero-mul f.prime))
           (places_of_one f c.prime-p.ensures.whole c.requires.monic c.requires.not_constant));
@@ -61,11 +61,11 @@ loop-k-preserved c =
     let at : 1 + (k - 1) ≡ k = omega arith in
     let now : k ≡ k + 1 - 1 = omega arith in
     let same = filled c.before.before in
-    let grown = c.multiply_by_power.ensures.growth (k * 2 ^ 15) (subst (All (λ x. x < k * 2 ^ 15)) (sym c.as_mut_slice.ensures.value) c.loop-k.invariant.small) in
+    let grown = c.multiply_by_power.ensures.growth (k * 2 ^ 18) (subst (All (λ x. x < k * 2 ^ 18)) (sym c.as_mut_slice.ensures.value) c.loop-k.invariant.small) in
     record {
       places = ap length same ∙ c.multiply_by_power.ensures.places ∙ ap length c.as_mut_slice.ensures.value ∙ c.loop-k.invariant.places;
-      small = subst (All (λ x. x < (k + 1) * 2 ^ 15)) (sym same)
-          (All-weaker (λ x. x < k * 2 ^ 15 + 2 ^ 15) (λ x. x < (k + 1) * 2 ^ 15) (λ x l. omega arith) c.multiply_by_power.new.places grown);
+      small = subst (All (λ x. x < (k + 1) * 2 ^ 18)) (sym same)
+          (All-weaker (λ x. x < k * 2 ^ 18 + 2 ^ 18) (λ x. x < (k + 1) * 2 ^ 18) (λ x l. omega arith) c.multiply_by_power.new.places grown);
       last = subst (λ j. ArePlacesOfPower f (j * f.prime) (refill (length c.loop-k.places.items) c.loop-k.places.items c.multiply_by_power.new.places)) now
           (next c.before.before);
       counted = omega (arith, c.push.ensures.len, c.loop-k.invariant.counted);

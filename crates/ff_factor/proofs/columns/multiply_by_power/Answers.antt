@@ -8,7 +8,7 @@ use Rattle.ff_factor.proofs.columns.multiply_by_power.Goals as goal
 
 pub multiply_by_variable-requires-clause-small : goal.multiply_by_variable-requires-clause-small
 multiply_by_variable-requires-clause-small c =
-    All-weaker (λ x. x < 2 ^ 30 + c.loop-k._k * 2 ^ 10) (λ x. x < 2 ^ 31)
+    All-weaker (λ x. x < 2 ^ 30 + c.loop-k._k * 2 ^ 12) (λ x. x < 2 ^ 31)
     (λ x l. omega (arith, c.loop-k-test.true, c.number-k-end.ensures.small.1)) c.loop-k.places (c.loop-k.invariant.growth (2 ^ 30) c.requires.small)
 
 pub loop-k-preserved : goal.loop-k-preserved
@@ -23,8 +23,8 @@ loop-k-preserved c =
     c.coefficients.ensures.value e.product) in
     record {
       len = e.places ∙ c.loop-k.invariant.len;
-      growth = λ b h. All-weaker (λ x. x < b + k * 2 ^ 10 + 2 ^ 10) (λ x. x < b + (k + 1) * 2 ^ 10) (λ x l. omega arith) ys
-          (e.growth (b + k * 2 ^ 10) (c.loop-k.invariant.growth b h));
+      growth = λ b h. All-weaker (λ x. x < b + k * 2 ^ 12 + 2 ^ 12) (λ x. x < b + (k + 1) * 2 ^ 12) (λ x l. omega arith) ys
+          (e.growth (b + k * 2 ^ 12) (c.loop-k.invariant.growth b h));
       power = λ n h. let more : suc (n + k) ≡ n + (k + 1) = omega arith in
           subst (λ m. ArePlacesOfPower f m ys) more
           (places_of_next f c.prime-p.ensures.whole c.requires.monic c.requires.not_constant (n + k) xs ys (c.loop-k.invariant.power n h) product);
@@ -32,5 +32,5 @@ loop-k-preserved c =
 
 pub returns-clause-growth : goal.returns-clause-growth
 returns-clause-growth c b h =
-    All-weaker (λ x. x < b + c.loop-k._k * 2 ^ 10) (λ x. x < b + 2 ^ 15)
+    All-weaker (λ x. x < b + c.loop-k._k * 2 ^ 12) (λ x. x < b + 2 ^ 18)
     (λ x l. omega (arith, c.loop-k.auto._k-end, c.number-k-end.ensures.small.1)) c.loop-k.places (c.loop-k.invariant.growth b h)

@@ -6,7 +6,7 @@ invariant-loop-at l = record {
   place : l.at ≡ length l.numbers.items * l.step;
   fewer : length l.numbers.items ≤ l.at;
   room : length l.numbers.items ≤ length l.c;
-  below : l.at < 96;
+  below : l.at < 192;
   taken : (k : ℕ) → k < length l.numbers.items → slice_index l.numbers.items k ≡ slice_index l.c (k * l.step);
 }
 

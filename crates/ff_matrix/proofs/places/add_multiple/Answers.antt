@@ -1,4 +1,5 @@
-use Rattle.std.proofs.Common.{refl, sym, ◌∙◌, arith}
+use Rattle.std.proofs.Common.{◌+◌, ◌*◌, ◌%◌, slice_index, ap, sym, ◌∙◌, arith}
+use native.Mathlib.Nat.{mod-add-mod}
 use Rattle.alg_model.specs.Coefficients.{mod_ops}
 use Rattle.alg_linear.proofs.Columns.{sum_scale_by_places}
 use Rattle.ff_matrix.proofs.RowPlaces.{added_nothing, done_more}
@@ -9,8 +10,12 @@ returns-then-factor-eq0-clause-added c =
     added_nothing c.args.p c.args.factor c.args.row.now c.args.source.now c.if-factor-eq0.true c.requires.sizes c.requires.row
 
 pub loop-i-preserved : goal.loop-i-preserved
-loop-i-preserved c = done_more c.args.p c.loop-i.i c.product_sum.result _ c.args.row.now c.loop-i.row (omega arith)
-    (c.product_sum.ensures.sum ∙ rw (c.loop-i.invariant.after c.loop-i.i (omega arith)) refl) c.product_sum.ensures.residue c.loop-i.invariant
+loop-i-preserved c =
+    let i = c.loop-i.i in
+    let product = c.args.factor * slice_index c.args.source.now i in
+    done_more c.args.p i c.reduced.result _ c.args.row.now c.loop-i.row (omega arith)
+    (c.reduced.ensures.value ∙ ap (λ w. (product + w) % c.args.p) (c.loop-i.invariant.after i (omega arith))
+    ∙ sym (mod-add-mod product c.args.p (slice_index c.args.row.now i))) c.reduced.ensures.residue c.loop-i.invariant
 
 pub returns-clause-added : goal.returns-clause-added
 returns-clause-added c =

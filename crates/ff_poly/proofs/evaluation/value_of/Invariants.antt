@@ -6,8 +6,8 @@ use Rattle.ff_poly.proofs.evaluation.value_of.Given as goal
 abbrev pub invariant-loop-n : goal.invariant-loop-n
 invariant-loop-n l = record {
   within : l.n ≤ length l.f;
-  horner : l.value ≡ evaluate (mod_ops l.number) (drop l.n l.f) l.c;
-  residue : l.value < l.number;
+  horner : l.value ≡ evaluate (mod_ops l.p) (drop l.n l.f) l.c;
+  residue : l.value < l.p;
 }
 
 abbrev pub decreases-loop-n : goal.decreases-loop-n

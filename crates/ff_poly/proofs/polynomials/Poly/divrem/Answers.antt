@@ -1,6 +1,7 @@
-use Rattle.std.proofs.Common.{◌≡◌, ◌≢◌, ◌-◌, ◌%◌, ◌<◌, length, slice_index, ap, sym, ◌∙◌, subst}
+use Rattle.std.proofs.Common.{◌≡◌, ◌≢◌, ◌-◌, ◌%◌, ◌<◌, ◌≤◌, All, arith, length, slice_index, ap, sym, ◌∙◌, subst}
 use Rattle.alg_model.specs.Coefficients.{mod_ops, residues, IsCharacteristic}
 use Rattle.alg_model.specs.Factors.{IsPolynomial, IsDivision}
+use Rattle.std.proofs.lemmas.List.{get_or_past}
 use Rattle.alg_rings.proofs.Lists.{length_not_nil}
 use Rattle.alg_rings.proofs.Trims.{last_not_zero}
 use Rattle.alg_rings.proofs.Residues.{zero_test}
@@ -16,6 +17,21 @@ divide-requires-clause-leading c =
     let d = c.args.d.now.coefficients in
     subst (λ xs. slice_index xs (length xs - 1) ≢ 0) (sym c.coefficients-divisor.ensures.value)
     (last_not_zero (mod_ops p) (zero_test p) d c.coefficients-divisor.ensures.whole.polynomial.1 (length_not_nil d c.requires.not_zero))
+
+pub divide-requires-clause-rest : goal.divide-requires-clause-rest
+divide-requires-clause-rest c =
+    let p = c.args.self.now.prime in
+    let whole = c.prime-p.ensures.whole in
+    let above : 0 < p = let h = characteristic_small p whole.characteristic in omega (arith, h.0) in
+    subst (λ n. All (λ x. x < n) c.places_of-rest.result) (sym c.prime-p.ensures.value)
+    (c.places_of-rest.ensures.residues p above (subst (λ xs. All (λ x. x < p) xs) (sym c.coefficients-dividend.ensures.value) whole.polynomial.0))
+
+pub divide-requires-clause-within : goal.divide-requires-clause-within
+divide-requires-clause-within c k h =
+    let some : 0 < length c.args.d.now.coefficients = length_not_nil c.args.d.now.coefficients c.requires.not_zero in
+    let same : length c.coefficients-divisor.result.now ≡ length c.args.d.now.coefficients = ap length c.coefficients-divisor.ensures.value in
+    let fits : length c.coefficients-divisor.result.now ≤ length c.coefficients-dividend.result.now = c.if-dividend-divisor.false in
+    c.places_of-rest.ensures.places k ∙ get_or_past c.coefficients-dividend.result.now k 0 (omega arith)
 
 divided : (c : goal.After-poly_of_places)
     → IsDivision (residues c.args.self.now.prime) c.args.self.now.coefficients c.args.d.now.coefficients c.trimmed-2.result.coefficients c.poly_of_places.result.coefficients
