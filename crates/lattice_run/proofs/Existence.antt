@@ -27,6 +27,7 @@ use Rattle.lat_script.proofs.SomeMeaning.{reading_exists}
 use Rattle.lat_script.specs.Texts.{line_text, summary_text, usage_text, bad_line_text, too_long_text}
 use Rattle.lattice_run.specs.declared.lattice.TheConstants.{MAX_FIELDS, TOP_DEGREE}
 use Rattle.lattice_run.specs.declared.run.TheConstants.{MAX_INPUT}
+use Rattle.lattice_run.proofs.Table.{table_is_known}
 use Rattle.lattice_run.specs.Lattice.{FieldRow, characteristics, IsInTable, IsDegreeInRange, IsFirstTooLarge, IsWellFormed, IsMalformed, AnswersTakenName, Declares, opening, map_count, field_named}
 use Rattle.lattice_run.specs.Lattice.AnswersTakenName.{same, other}
 use Rattle.lattice_run.specs.Lattice.Declares.{malformed, named, reducible, full, declared}
@@ -105,10 +106,10 @@ irreducible_or_factored : (p : ℕ) (f : List ℕ) → IsWellFormed p f
 irreducible_or_factored p f w =
     let polynomial : IsPolynomial (residues p) f = (w.coefficients, trimmed_monic p f w.monic) in
     ⊎_elim
-    (λ g. inr (least_factor_exists (residues_propositional p) (residues_field p w.characteristic) (residues_finite p) nat_cmp_total
+    (λ g. inr (least_factor_exists (residues_propositional p) (residues_field p (table_is_known p w.characteristic)) (residues_finite p) nat_cmp_total
     f g.0 polynomial (well_formed_monic p f w) g.1))
     (λ n. inl (record { polynomial = polynomial; not_constant = let d : 2 ≤ degree f = w.in_range.0 in omega arith; no_factor = n }))
-    (proper_factor_or_none (residues_propositional p) (residues_field p w.characteristic) (residues_finite p) f polynomial)
+    (proper_factor_or_none (residues_propositional p) (residues_field p (table_is_known p w.characteristic)) (residues_finite p) f polynomial)
 
 taken_name_answer : (row : FieldRow) (p : ℕ) (f : List ℕ) (n : ℕ)
     → (reply : Reply) × AnswersTakenName row p f n reply

@@ -17,7 +17,7 @@ use Rattle.alg_model.specs.Factors.{IsIrreducible}
 use Rattle.alg_model.specs.Values.{degree}
 use Rattle.ff_poly.specs.Polynomial.{Polynomial}
 use Rattle.lat_script.specs.declared.replies.Reply.{Reply}
-use Rattle.ff_poly.proofs.Characteristics.{characteristic_small}
+use Rattle.lattice_run.proofs.Table.{table_small}
 use Rattle.lattice_run.specs.Lattice.{FieldRow, characteristics, IsInTable, IsFieldRow, IsLattice, IsWellFormed, Declares, opening, prime_field, field_named}
 use Rattle.lattice_run.specs.Lattice.Declares.{malformed, named, reducible, full, declared}
 use Rattle.lattice_run.specs.declared.lattice.TheConstants.{MAX_FIELDS}
@@ -25,7 +25,7 @@ use Rattle.lattice_run.proofs.Building.{well_formed_monic}
 
 prime_field_is_field_row : (p : ℕ) → IsInTable p → IsFieldRow (prime_field p)
 prime_field_is_field_row p h =
-    let small : (1 < p) × (p < 32) = characteristic_small p h in
+    let small : (1 < p) × (p < 32) = table_small p h in
     record {
       characteristic = h;
       monic = refl;
@@ -53,7 +53,7 @@ primes_rise (suc (suc (suc (suc (suc (suc (suc (suc (suc (suc k)))))))))) within
 prime_names_differ : (p q : ℕ) → IsInTable p → IsInTable q → p < q
     → codes "F" ++ decimal p ≢ codes "F" ++ decimal q
 prime_names_differ p q h l less e =
-    let first : (1 < p) × (p < 32) = characteristic_small p h in
+    let first : (1 < p) × (p < 32) = table_small p h in
     let second : (1 < q) × (q < 32) = characteristic_small q l in
     let same : p ≡ q = decimal_injective p q (omega arith) (omega arith) (append_cancel_left (codes "F") (decimal p) (decimal q) e) in
     absurd (omega arith)

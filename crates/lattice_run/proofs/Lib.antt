@@ -7,3 +7,4 @@ pub mod Running
 pub mod Statuses
 pub mod Determined
 pub mod Existence
+pub mod Table

@@ -5,7 +5,7 @@ use Rattle.std.proofs.lemmas.List.Elements.{All-cons, All-nil}
 use Rattle.std.proofs.lemmas.Int.Digits.{all_below_base_digits_of}
 use Rattle.std.proofs.lemmas.Fmt.{decimal_digit, decimal_step, decimal-digits_of, length-decimal-le}
 use Rattle.std.specs.Int.Digits.{AllBelowBase, digits_of}
-use Rattle.ff_poly.proofs.Characteristics.{characteristic_small}
+use Rattle.lattice_run.proofs.Table.{table_small}
 use Rattle.lat_script.specs.Names.{IsDeclaredName, IsNameByte}
 use Rattle.lattice_run.specs.Lattice.{IsInTable}
 use Rattle.lattice_run.specs.Theorems.{OpeningNames}
@@ -17,7 +17,7 @@ digits_named (d ∷ ds) h = All-cons IsNameByte (48 + d) (map (λ d. 48 + d) ds)
 -- the name of a prime field is a declared name
 pub prime_named : (p : ℕ) → IsInTable p → IsDeclaredName (codes "F" ++ decimal p)
 prime_named p h =
-    let small : (1 < p) × (p < 32) = characteristic_small p h in
+    let small : (1 < p) × (p < 32) = table_small p h in
     let bytes : All IsNameByte (decimal p) =
     let positive : 0 < p = omega arith in let fits : p < 2 ^ 64 = omega arith in rw (decimal-digits_of p positive fits) (digits_named (digits_of 10 p) (all_below_base_digits_of 10 p (lit≤ tt))) in
     let short : length (decimal p) ≤ 2 = length-decimal-le 2 p (lit< tt) (omega arith) (omega arith) in

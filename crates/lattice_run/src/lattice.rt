@@ -1,6 +1,6 @@
 //! The fields of the lattice, and the declaring of a field.
 
-ghost use Rattle.std.specs.Prelude.{◌≡◌, ◌≢◌, ℕ, List, ◌+◌, ◌*◌, ◌-◌, ◌^◌, ◌<◌, ◌≤◌, ◌↔◌, length, IsTrue, IfOk, OnErr, IfSome, IfNone, IfErr, All, slice_get, codes, decimal, ◌++◌};
+ghost use Rattle.std.specs.Prelude.{◌≡◌, ◌≢◌, ℕ, List, ◌+◌, ◌*◌, ◌-◌, ◌^◌, ◌<◌, ◌≤◌, ◌↔◌, length, IsTrue, IfOk, OnErr, IfSome, IfNone, IfErr, SomeIff, All, slice_get, codes, decimal, ◌++◌};
 ghost use Rattle.std.specs.Ordering.{nat_cmp};
 ghost use Rattle.alg_model.specs.Coefficients.{residues};
 ghost use Rattle.alg_model.specs.Factors.{IsIrreducible, IsLeastFactor};
@@ -8,10 +8,13 @@ ghost use Rattle.lat_script.specs.declared.replies.Reply.{Reply};
 ghost use Rattle.lattice_run.specs.Lattice.{IsInTable, opening, field_named, prime_field, map_count, FieldRow, IsLattice, IsFirstTooLarge, IsWellFormed, IsMalformed, AnswersTakenName, Declares};
 
 use ff_factor::{Verdict, judge};
-use ff_poly::{CHARACTERISTICS, Poly, Prime};
+use ff_poly::{Poly, Prime};
 use lat_script::{Digits, FieldName, NoMemory, Reply, StepRefusal};
 use std::alloc::Global;
 use std::marker::Model;
+
+/// The characteristics that a lattice has fields of, in their order.
+pub const CHARACTERISTICS: [u32; 11] = [2, 3, 5, 7, 11, 13, 17, 19, 23, 29, 31];
 
 /// The most fields of a lattice.
 pub const MAX_FIELDS: usize = 200;
@@ -89,6 +92,16 @@ fn prime_row(alloc: Global, p: u32) -> Result<Row, NoMemory>
     })
 }
 
+// The characteristic p of the lattice; None where it has no fields of it.
+fn characteristic_of(p: u32) -> Option<Prime>
+    ensures { SomeIff result (IsInTable p) p }
+{
+    if !CHARACTERISTICS.contains(&p) {
+        return None;
+    }
+    Prime::of(p)
+}
+
 // The place of the first number that isn't below p, of numbers with such a one.
 fn first_too_large(p: Prime, numbers: &[u8]) -> usize
     requires { ¬ All (λ a. a < p) numbers.now }
@@ -105,7 +118,7 @@ fn well_formed(p: u32, digits: &Digits) -> Result<Poly, StepRefusal>
     ensures malformed { IfErr result (IsMalformed p digits.now) }
 {
     let numbers = digits.numbers();
-    let Some(prime) = Prime::of(p) else {
+    let Some(prime) = characteristic_of(p) else {
         return Err(StepRefusal::NotInTable(p));
     };
     let degree = numbers.len() - 1;
