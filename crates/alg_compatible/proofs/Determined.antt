@@ -1,32 +1,15 @@
 -- A filled lattice is determined by the lattice before, the two fields and the map.
-use Rattle.std.proofs.Common.{◌≡◌, ◌↔◌, ℕ, ◌+◌, ◌<◌, List, ◌++◌, length, map, get_or, slice_index, refl, sym, ap, ◌∙◌, subst, Option, Some, None, Ordering, Less, Equal, Greater, nat_cmp, ext_get_or}
-use Rattle.std.specs.Ordering.{ordering_then}
-use Rattle.std.specs.FinMap.{get, same_map, IsAntisymmetric}
-use Rattle.std.specs.Cmp.{IsTotalOrder}
-use Rattle.std.proofs.lemmas.Cmp.{nat_cmp_total, on_total, then_total}
+use Rattle.std.proofs.Common.{◌≡◌, ◌↔◌, ℕ, ◌+◌, ◌<◌, List, ◌++◌, length, map, get_or, slice_index, refl, sym, ap, ◌∙◌, subst, Option, Some, None, ext_get_or}
+use Rattle.std.specs.FinMap.{get, same_map}
 use Rattle.alg_model.specs.Maps.{identity_map}
-use Rattle.alg_model.specs.Lattices.{Lattice, Row, IsRows, no_row, field_at, pair_cmp, prime_row, Stored}
+use Rattle.alg_model.specs.Lattices.{Lattice, Row, IsRows, no_row, field_at, prime_row, Stored}
 use Rattle.alg_model.specs.Declaring.{IsOpening, IsDeclared, IsStoredWith}
 use Rattle.alg_model.specs.Filling.{IsMadeRow, AreRowsAfter, IsStoredAfter, IsFilled}
-use Rattle.alg_rings.proofs.PolynomialOrder.{nat_cmp_same}
 use Rattle.alg_galois.proofs.LeastIrreducible.{least_irreducible_unique}
 use Rattle.alg_lattices.proofs.MissingDegrees.{missing_list_one}
+use Rattle.alg_compatible.proofs.Tables.{pair_total, pair_antisymmetric}
 use Rattle.alg_compatible.proofs.Transfer.{one_prime}
 use Rattle.alg_compatible.proofs.Insertions.{to_list}
-
--- the order of pairs is total, and only equal pairs tie
-pub pair_total : IsTotalOrder pair_cmp
-pair_total = then_total (on_total (λ (a : ℕ × ℕ). a.0) nat_cmp_total) (on_total (λ (a : ℕ × ℕ). a.1) nat_cmp_total)
-
-both_tie : (a b : Ordering) → ordering_then a b ≡ Equal → (a ≡ Equal) × (b ≡ Equal)
-both_tie Less b e = cc
-both_tie Equal b e = (refl, e)
-both_tie Greater b e = cc
-
-pub pair_antisymmetric : IsAntisymmetric pair_cmp
-pair_antisymmetric x y e =
-    let (a, b) = both_tie (nat_cmp x.0 y.0) (nat_cmp x.1 y.1) e in
-    λ i. (nat_cmp_same x.0 y.0 a i, nat_cmp_same x.1 y.1 b i)
 
 same_option : {A : Type 0} (o p : Option A) → ((a : A) → (o ≡ Some a) ↔ (p ≡ Some a)) → o ≡ p
 same_option (Some a) p same = sym ((same a).0 refl)

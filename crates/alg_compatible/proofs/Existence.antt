@@ -1,17 +1,15 @@
 -- Filling has a result: a lattice with a row for each missing degree, and the maps that are stored.
-use Rattle.std.proofs.Common.{◌≡◌, ◌⊎◌, ℕ, zero, suc, ◌+◌, ◌*◌, ◌/◌, ◌%◌, ◌<◌, List, [], ◌∷◌, ◌++◌, length, slice_index, slice_index_or, refl, sym, ap, subst, inl, inr, Option, Some, None, arith}
-use Rattle.std.proofs.lemmas.Nat.{div-mul-add, mod-mul-add, mul-add-lt}
+use Rattle.std.proofs.Common.{◌≡◌, ℕ, zero, suc, ◌+◌, ◌<◌, List, [], ◌∷◌, ◌++◌, length, slice_index, slice_index_or, refl, ap, subst, arith}
 use Rattle.std.proofs.lemmas.List.Elements.{Contains-get_or}
 use Rattle.std.proofs.Math.Nat.{pos_of_dvd_of_pos}
 use Rattle.alg_model.specs.Coefficients.{IsPrime}
 use Rattle.alg_model.specs.Maps.{IsFiniteField}
-use Rattle.alg_model.specs.Lattices.{Lattice, Row, no_row, field_at, made_name, Stored, IsRows, Compatible}
+use Rattle.alg_model.specs.Lattices.{Lattice, Row, no_row, field_at, made_name, IsRows, Compatible}
 use Rattle.alg_model.specs.Candidates.{AreMissing}
-use Rattle.alg_model.specs.Filling.{IsMadeRow, AreRowsAfter, IsStoredAfter, IsFilled}
+use Rattle.alg_model.specs.Filling.{IsMadeRow, AreRowsAfter, IsFilled}
 use Rattle.alg_lattices.specs.Filling as Theory
 use Rattle.alg_galois.proofs.Meets.{degree_positive}
 use Rattle.alg_galois.proofs.LeastIrreducible.{least_irreducible_exists}
-use Rattle.std.specs.FinMap.{get}
 use Rattle.alg_lattices.proofs.ForcedMaps.{Setting}
 use Rattle.alg_lattices.proofs.StoredMaps
 use Rattle.alg_lattices.proofs.Filling.{setting}
@@ -21,8 +19,7 @@ use Rattle.alg_compatible.proofs.FiniteFields.{finite_fields, embedding_laws, fr
 use Rattle.alg_compatible.proofs.Transfer.{lattice_of, lattice_decided, to_theory, field_finite}
 use Rattle.alg_compatible.proofs.Insertions.{insertion_of, to_stored, from_stored, from_list, to_closure}
 use Rattle.alg_compatible.proofs.Filling.{Inserted, is_insertion, fields}
-use Rattle.alg_compatible.proofs.Determined.{pair_total, pair_antisymmetric}
-use Rattle.alg_compatible.proofs.Tables.{table, table_only, table_all}
+use Rattle.alg_compatible.proofs.Tables.{Pairs, pairs_map, pairs_map_has}
 
 -- made rows from number n on, of the degrees ds
 pub record MadeRows (n p : ℕ) (ds : List ℕ) : Type 0 where
@@ -49,82 +46,27 @@ made_rows n p h (d ∷ ds) positive =
     (record { name = refl; characteristic = refl; polynomial = least })
     (made_rows (suc n) p h ds (λ k l. positive (suc k) (omega arith)))
 
--- a decided relation as a function: the thing that has it, if there is one
-choose : {A : Type 0} {S : A → Type 0} → ((a : A) × S a) ⊎ ¬ ((a : A) × S a) → Option A
-choose (inl (a, s)) = Some a
-choose (inr none) = None
-
-choose_holds : {A : Type 0} {S : A → Type 0} (d : ((a : A) × S a) ⊎ ¬ ((a : A) × S a)) (m : A)
-    → choose d ≡ Some m → S m
-unfolding choose
-choose_holds {S = S} (inl (a, s)) m e = let f : a ≡ m = cc in subst S f s
-choose_holds (inr none) m e = cc
-
-choose_all : {A : Type 0} {S : A → Type 0} (d : ((a : A) × S a) ⊎ ¬ ((a : A) × S a)) (m : A)
-    → ((a : A) → S a → a ≡ m) → S m → choose d ≡ Some m
-unfolding choose
-choose_all (inl (a, s)) m one h = ap Some (one a s)
-choose_all (inr none) m one h = absurd (none (m, h))
-
 module _ {L : Lattice} {E F : ℕ} {phi : List (List ℕ)} {rows : List Row}
     (H : Inserted L E F phi rows) where
   S : Setting finite_fields (length L.edition.primes) (insertion_of L E F phi rows)
   S = setting embedding_laws (to_theory L H.before H.compatible) (lattice_decided L) (is_insertion H)
 
-  -- the map of a pair afterwards, if there is one
-  value : ℕ × ℕ → Option (List (List ℕ))
-  value q = choose (filled_decided S q.0 q.1)
-
-  -- pairs by one number
-  key : ℕ → ℕ × ℕ
-  key j = (j / length rows, j % length rows)
-
-  key_of : (i k : ℕ) → k < length rows → key (i * length rows + k) ≡ (i, k)
-  unfolding key
-  key_of i k h = λ t. (div-mul-add i (length rows) k h t, mod-mul-add i (length rows) k h t)
-
-  -- **the lattice afterwards**
-  lattice_after : Lattice
-  lattice_after = record {
-    edition = L.edition;
-    rows = rows;
-    maps = table pair_total pair_antisymmetric key value (length rows * length rows);
+  pairs : Pairs (length rows)
+      (λ i k m. Theory.IsStoredAfter finite_fields (insertion_of L E F phi rows) i k m)
+  pairs = record {
+    decided = filled_decided S;
+    one = λ h k. StoredMaps.stored_one S h k;
+    within = λ h. StoredMaps.stored_within S h;
   }
-
-  stored_only : {i k : ℕ} {m : List (List ℕ)} → Stored lattice_after i k m
-      → IsStoredAfter L E F phi rows i k m
-  unfolding lattice_after value
-  stored_only {i} {k} {m} h = from_stored (choose_holds (filled_decided S i k) m
-      (table_only pair_total pair_antisymmetric key value (length rows * length rows) (i, k) m h.found))
-
-  stored_all : {i k : ℕ} {m : List (List ℕ)}
-      → Theory.IsStoredAfter finite_fields (insertion_of L E F phi rows) i k m
-      → Stored lattice_after i k m
-  unfolding lattice_after value
-  stored_all {i} {k} {m} h = record {
-    found = subst (λ q. get (table pair_total pair_antisymmetric key value (length rows * length rows)) q ≡ Some m) pair
-        (table_all pair_total pair_antisymmetric key value (length rows * length rows) (i * length rows + k) m (mul-add-lt i (length rows) k (length rows) within.0 within.1)
-        (subst (λ q. value q ≡ Some m) (sym pair) found));
-  }
-    where
-      within : (i < length rows) × (k < length rows)
-      within = StoredMaps.stored_within S h
-
-      pair : key (i * length rows + k) ≡ (i, k)
-      pair = key_of i k within.1
-
-      found : value (i, k) ≡ Some m
-      found = choose_all (filled_decided S i k) m (λ a s. StoredMaps.stored_one S s h) h
 
   -- **a filled lattice exists**
   pub lattice_filled : (M : Lattice) × IsFilled L E F phi M
-  unfolding lattice_after
   lattice_filled = (
-    lattice_after,
+    record { edition = L.edition; rows = rows; maps = pairs_map pairs },
     record {
       edition = refl;
       rows = H.after;
-      maps = (λ h. stored_only h, λ h. stored_all (to_stored (fields H) h));
+      maps = (λ h. from_stored ((pairs_map_has pairs).0 h.found), λ h. record { found = (pairs_map_has pairs).1 (to_stored (fields H) h) });
     },
   )
 

@@ -1,10 +1,10 @@
 -- The laws, each from its lemma; the statements and what they say are in specs/Laws.antt.
 use Rattle.std.proofs.Common.{ℕ, ◌≤◌, List, length, Option, sym, subst}
 use Rattle.alg_model.specs.Lattices.{Lattice, Row, IsRows}
-use Rattle.alg_model.specs.Candidates.{IsCandidate}
+use Rattle.alg_model.specs.Candidates.{embedding_by, IsCandidate}
 use Rattle.alg_model.specs.Filling.{AreRowsAfter}
 use Rattle.alg_lattices.proofs.MissingDegrees as Theory
-use Rattle.alg_compatible.specs.Theorems.{IsCompatible, AreFields, embedding_by, OpeningIsCompatible, DeclaringKeepsCompatible, DeclaringKeepsRows, FillingKeepsCompatible, FillingKeepsRows, FillingIsByRules, PlainEmbeddingExists, ChoiceExists, ChoiceIsUnique, MissingDegreesExist, MissingDegreesAreUnique, AddedFieldsAreForced, AddedMapsAreForced, StoredPairChangesNothing, OpeningIsDetermined, DeclaringIsDetermined, FillingIsDetermined, FillingExists}
+use Rattle.alg_compatible.specs.Theorems.{IsCompatible, AreFields, OpeningIsCompatible, DeclaringKeepsCompatible, DeclaringKeepsRows, FillingKeepsCompatible, FillingKeepsRows, FillingIsByRules, PlainEmbeddingExists, ChoiceExists, ChoiceIsUnique, MissingDegreesExist, MissingDegreesAreUnique, AddedFieldsAreForced, AddedMapsAreForced, StoredPairChangesNothing, OpeningIsDetermined, DeclaringIsDetermined, FillingIsDetermined, FillingExists, OpeningExists, DeclaringExists}
 use Rattle.alg_compatible.proofs.FiniteFields.{embedding_laws, frobenius_laws}
 use Rattle.alg_compatible.proofs.Transfer.{lattice_decided, to_theory}
 use Rattle.alg_compatible.proofs.Insertions.{to_list, from_list}
@@ -14,6 +14,7 @@ use Rattle.alg_compatible.proofs.Filling.{Inserted}
 use Rattle.alg_compatible.proofs.Filling as Filling
 use Rattle.alg_compatible.proofs.Determined as Determined
 use Rattle.alg_compatible.proofs.Existence as Existence
+use Rattle.alg_compatible.proofs.Beginnings as Beginnings
 use Rattle.alg_compatible.proofs.Rules as Rules
 use Rattle.alg_compatible.proofs.RowsAfter as RowsAfter
 use Rattle.alg_compatible.proofs.Additions as Additions
@@ -98,3 +99,9 @@ pub filling_exists_law : FillingExists
 filling_exists_law L E F sending v C A c =
     let (rows, R) = Existence.rows_exist C.rows C.compatible E F A.target (embedding_by L E F v) (to_candidate C.rows A.source A.target c) in
     Existence.lattice_filled (inserted C A c R)
+
+pub opening_exists_law : OpeningExists
+opening_exists_law = Beginnings.opening_exists
+
+pub declaring_exists_law : DeclaringExists
+declaring_exists_law L row C R = Beginnings.declared_exists C.rows C.compatible row R

@@ -9,7 +9,8 @@ pub mod RowsAfter
 pub mod Choices
 pub mod Storing
 pub mod Rules
-pub mod Determined
 pub mod Tables
+pub mod Determined
 pub mod Existence
+pub mod Beginnings
 pub mod Laws

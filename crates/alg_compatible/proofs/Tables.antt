@@ -1,9 +1,14 @@
--- A finite map made from a function on keys that numbers below n enumerate.
-use Rattle.std.proofs.Common.{◌≡◌, ◌⊎◌, ℕ, zero, suc, ◌<◌, true, false, cond, refl, sym, ap, ◌∙◌, subst, inl, inr, ⊎_elim, Option, Some, None, Ordering, Less, Equal, Greater, arith}
+-- A finite map made from a function on keys that numbers below n enumerate, and one made from a
+-- relation between numbers.
+--     Pairs n S       it can be told which pairs below n have a thing, and each has at most one
+use Rattle.std.proofs.Common.{◌≡◌, ◌⊎◌, ◌↔◌, ℕ, zero, suc, ◌+◌, ◌*◌, ◌/◌, ◌%◌, ◌<◌, nat_cmp, true, false, cond, refl, sym, ap, ◌∙◌, subst, inl, inr, ⊎_elim, Option, Some, None, Ordering, Less, Equal, Greater, arith}
 use Rattle.std.specs.FinMap.{FinMap, empty, get, insert, get-empty, get-insert, IsAntisymmetric}
 use Rattle.std.specs.Cmp.{IsTotalOrder}
-use Rattle.std.specs.Ordering.{eq_by_cmp, is_eq}
-use Rattle.std.proofs.lemmas.Cmp.{tied_itself}
+use Rattle.std.specs.Ordering.{eq_by_cmp, is_eq, ordering_then}
+use Rattle.std.proofs.lemmas.Cmp.{tied_itself, nat_cmp_total, on_total, then_total}
+use Rattle.std.proofs.lemmas.Nat.{div-mul-add, mod-mul-add, mul-add-lt}
+use Rattle.alg_model.specs.Lattices.{pair_cmp}
+use Rattle.alg_rings.proofs.PolynomialOrder.{nat_cmp_same}
 use Rattle.std.proofs.lemmas.Bool.{cases_eq, cases_Bool}
 
 tied : (r : Ordering) → is_eq r ≡ true → r ≡ Equal
@@ -71,3 +76,73 @@ module _ {K X : Type 0} {R : K → K → Ordering} (T : IsTotalOrder R) (A : IsA
         (put_new (table n) (key n) (f (key n)) v (subst (λ i. f (key i) ≡ Some v) p e)))
         (λ apart. put_old (table n) (key n) (f (key n)) (key j) v (λ p. ap f (sym p) ∙ e) (table_all n j v (omega arith) e))
         (cases_eq j n)
+
+-- a decided relation as a function: the thing that has it, if there is one
+choose : {A : Type 0} {S : A → Type 0} → ((a : A) × S a) ⊎ ¬ ((a : A) × S a) → Option A
+choose (inl (a, s)) = Some a
+choose (inr none) = None
+
+choose_holds : {A : Type 0} {S : A → Type 0} (d : ((a : A) × S a) ⊎ ¬ ((a : A) × S a)) (m : A)
+    → choose d ≡ Some m → S m
+unfolding choose
+choose_holds {S = S} (inl (a, s)) m e = let f : a ≡ m = cc in subst S f s
+choose_holds (inr none) m e = cc
+
+choose_all : {A : Type 0} {S : A → Type 0} (d : ((a : A) × S a) ⊎ ¬ ((a : A) × S a)) (m : A)
+    → ((a : A) → S a → a ≡ m) → S m → choose d ≡ Some m
+unfolding choose
+choose_all (inl (a, s)) m one h = ap Some (one a s)
+choose_all (inr none) m one h = absurd (none (m, h))
+
+-- the order of pairs is total, and only equal pairs tie
+pub pair_total : IsTotalOrder pair_cmp
+pair_total = then_total (on_total (λ (a : ℕ × ℕ). a.0) nat_cmp_total) (on_total (λ (a : ℕ × ℕ). a.1) nat_cmp_total)
+
+both_tie : (a b : Ordering) → ordering_then a b ≡ Equal → (a ≡ Equal) × (b ≡ Equal)
+both_tie Less b e = cc
+both_tie Equal b e = (refl, e)
+both_tie Greater b e = cc
+
+pub pair_antisymmetric : IsAntisymmetric pair_cmp
+pair_antisymmetric x y e =
+    let (a, b) = both_tie (nat_cmp x.0 y.0) (nat_cmp x.1 y.1) e in
+    λ i. (nat_cmp_same x.0 y.0 a i, nat_cmp_same x.1 y.1 b i)
+
+-- a relation between two numbers below n and a thing, that can be told and has at most one thing
+-- for each pair
+pub record Pairs {A : Type 0} (n : ℕ) (S : ℕ → ℕ → A → Type 0) : Type 0 where
+  pub decided : (i k : ℕ) → ((a : A) × S i k a) ⊎ ¬ ((a : A) × S i k a)
+  pub one : {i k : ℕ} {a b : A} → S i k a → S i k b → a ≡ b
+  pub within : {i k : ℕ} {a : A} → S i k a → (i < n) × (k < n)
+
+module _ {A : Type 0} {n : ℕ} {S : ℕ → ℕ → A → Type 0} (P : Pairs n S) where
+  value : ℕ × ℕ → Option A
+  value q = choose (P.decided q.0 q.1)
+
+  -- pairs by one number
+  key : ℕ → ℕ × ℕ
+  key j = (j / n, j % n)
+
+  -- the finite map of the relation
+  pub pairs_map : FinMap pair_cmp A
+  pairs_map = table pair_total pair_antisymmetric key value (n * n)
+
+  pairs_all : {i k : ℕ} {a : A} → S i k a → get pairs_map (i, k) ≡ Some a
+  unfolding pairs_map value key
+  pairs_all {i} {k} {a} h = subst (λ q. get pairs_map q ≡ Some a) pair
+      (table_all pair_total pair_antisymmetric key value (n * n) (i * n + k) a (mul-add-lt i n k n within.0 within.1)
+      (subst (λ q. value q ≡ Some a) (sym pair) (choose_all (P.decided i k) a (λ b s. P.one s h) h)))
+    where
+      within : (i < n) × (k < n)
+      within = P.within h
+
+      pair : key (i * n + k) ≡ (i, k)
+      pair = λ t. (div-mul-add i n k within.1 t, mod-mul-add i n k within.1 t)
+
+  -- **it has exactly the pairs of the relation**
+  pub pairs_map_has : {i k : ℕ} {a : A} → (get pairs_map (i, k) ≡ Some a) ↔ S i k a
+  unfolding pairs_map value
+  pairs_map_has {i} {k} {a} = (
+    λ e. choose_holds (P.decided i k) a (table_only pair_total pair_antisymmetric key value (n * n) (i, k) a e),
+    λ h. pairs_all h,
+  )

@@ -2,8 +2,8 @@
 use Rattle.std.specs.Prelude.{◌≡◌, ◌≢◌, ◌↔◌, ℕ, ◌<◌, ◌≤◌, List, length, slice_index_or, Option, None}
 use Prim.Native.Nat.{◌∣◌}
 use Rattle.alg_model.specs.Maps.{degree_of}
-use Rattle.alg_model.specs.Lattices.{Lattice, Row, no_row, field_at, Stored, Grows, IsRow, IsRows, Compatible}
-use Rattle.alg_model.specs.Candidates.{map_sending, IsCandidate, IsChoice, IsMissing, AreMissing}
+use Rattle.alg_model.specs.Lattices.{Edition, Lattice, Row, no_row, field_at, Stored, Grows, IsRow, IsRows, Compatible}
+use Rattle.alg_model.specs.Candidates.{embedding_by, IsCandidate, IsChoice, IsMissing, AreMissing}
 use Rattle.alg_model.specs.Filling.{AreRowsAfter, IsStoredAfter, IsFilled}
 use Rattle.alg_model.specs.Declaring.{IsOpening, IsDeclared}
 use Rattle.alg_compatible.specs.Rules.{IsStoredByRules}
@@ -17,10 +17,6 @@ pub record IsCompatible (L : Lattice) : Type 0 where
 pub record AreFields (L : Lattice) (E F : ℕ) : Type 0 where
   pub source : E < length L.rows
   pub target : F < length L.rows
-
--- the embedding of field E in field F that sends the generator to v
-abbrev pub embedding_by : Lattice → ℕ → ℕ → List ℕ → List (List ℕ)
-embedding_by L E F v = map_sending (field_at L.rows E) (field_at L.rows F) v
 
 -- The prime fields with their identities are a compatible lattice.
 abbrev pub OpeningIsCompatible : Type 0
@@ -141,3 +137,12 @@ abbrev pub FillingExists : Type 0
 FillingExists = (L : Lattice) (E F : ℕ) (sending : Option (List ℕ × List ℕ)) (v : List ℕ)
     → IsCompatible L → AreFields L E F → IsCandidate L E F sending v
     → (M : Lattice) × IsFilled L E F (embedding_by L E F v) M
+
+-- An edition has an opening lattice.
+abbrev pub OpeningExists : Type 0
+OpeningExists = (e : Edition) → (L : Lattice) × (L.edition ≡ e) × IsOpening L
+
+-- A compatible lattice and a row of its edition have a lattice after the declaration.
+abbrev pub DeclaringExists : Type 0
+DeclaringExists = (L : Lattice) (row : Row) → IsCompatible L → IsRow L.edition (length L.rows) row
+    → (M : Lattice) × IsDeclared L row M

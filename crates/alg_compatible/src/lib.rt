@@ -6,11 +6,12 @@ ghost use Rattle.alg_compatible.specs.Theorems.{OpeningIsCompatible, DeclaringKe
 ghost use Rattle.alg_compatible.specs.Theorems.{FillingKeepsRows, FillingIsByRules, PlainEmbeddingExists, ChoiceExists};
 ghost use Rattle.alg_compatible.specs.Theorems.{ChoiceIsUnique, MissingDegreesExist, MissingDegreesAreUnique, AddedFieldsAreForced};
 ghost use Rattle.alg_compatible.specs.Theorems.{AddedMapsAreForced, StoredPairChangesNothing, OpeningIsDetermined, DeclaringIsDetermined};
-ghost use Rattle.alg_compatible.specs.Theorems.{FillingIsDetermined, FillingExists};
+ghost use Rattle.alg_compatible.specs.Theorems.{FillingIsDetermined, FillingExists, OpeningExists, DeclaringExists};
 
 /// The prime fields with their identities are a compatible lattice, the one opening lattice of their edition.
 pub fn opening_is_compatible()
     ensures compatible { OpeningIsCompatible }
+    ensures exists { OpeningExists }
     ensures determined { OpeningIsDetermined }
 {}
 
@@ -18,6 +19,7 @@ pub fn opening_is_compatible()
 pub fn declaring_keeps_compatible()
     ensures compatible { DeclaringKeepsCompatible }
     ensures rows { DeclaringKeepsRows }
+    ensures exists { DeclaringExists }
     ensures determined { DeclaringIsDetermined }
 {}
 

@@ -246,7 +246,8 @@ module _ {A B : Type 0} {k : Ops B} {o : Ops A} {h : B → A} (H : Homomorphism 
     pub zero_on_orbit : (f : List B) → evaluate o (map h f) a ≡ o.zero → (i : ℕ)
         → evaluate o (map h f) (frobenius o (p ^ m) i a) ≡ o.zero
     zero_on_orbit f e i =
-        frobenius_of_value H K F.field (frobenius_homomorphism F.field F.prime F.characteristic m) f i a
+        frobenius_of_value H K F.field
+        (frobenius_homomorphism F.field F.prime F.characteristic m) f i a
         ∙ ap (frobenius o (p ^ m) i) e ∙ frobenius_of_power F.field.ring p m i o.zero
         ∙ (frobenius_homomorphism F.field F.prime F.characteristic (m * i)).zero
 

@@ -1,5 +1,5 @@
--- The polynomial of a field E over a field F with a root v: it is the product of x - w over the orbit of v, and polynomials with
--- one remainder by it have one value at v.
+-- The polynomial of a field E over a field F with a root v: it is the product of x - w over the orbit
+-- of v, and polynomials with one remainder by it have one value at v.
 use Rattle.std.proofs.Common.{◌≡◌, ℕ, ◌^◌, List, map, refl, ap, sym, ◌∙◌}
 use Rattle.std.specs.List.{range_with_len}
 use Rattle.alg_model.specs.Coefficients.{power, residues, mod_ops, IsPrime}

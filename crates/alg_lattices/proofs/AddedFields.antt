@@ -8,8 +8,8 @@ use Rattle.alg_lattices.specs.Embeddings.{Embeddings}
 use Rattle.alg_lattices.specs.Filling.{Insertion, IsInsertion, IsMissing}
 
 -- an added field, with its number
-pub record Added {Field Map : Type 0} (o : Embeddings Field Map) (W : Insertion Field Map) (d : ℕ) :
-    Type 0 where
+pub record Added {Field Map : Type 0} (o : Embeddings Field Map) (W : Insertion Field Map) (d : ℕ)
+    : Type 0 where
   pub number : ℕ
   pub new : W.old.count ≤ number
   pub below : number < W.count

@@ -23,8 +23,8 @@ gcd_below : (i j k l m : ℕ) → i ∣ k → IsGcd k j l → IsGcd i l m → Is
 gcd_below i j k l m h a b = (b.0, dvd_trans m b.1 a.1, λ d p q. b.2 d p (a.2 d (dvd_trans d p h) q))
 
 -- a field with stored maps into i and j, of the degree gcd
-record Lower {Field Map : Type 0} (o : Embeddings Field Map) (W : Insertion Field Map) (i j : ℕ) :
-    Type 0 where
+record Lower {Field Map : Type 0} (o : Embeddings Field Map) (W : Insertion Field Map) (i j : ℕ)
+    : Type 0 where
   field : ℕ
   first : Map
   second : Map

@@ -62,8 +62,8 @@ pub record Insertion (Field Map : Type 0) : Type 1 where
   pub Made : ℕ → Map → Type 0
 
 -- the map chosen is a candidate, and one field is added for each missing degree
-pub record IsInsertion {Field Map : Type 0} (o : Embeddings Field Map) (W : Insertion Field Map) :
-    Type 0 where
+pub record IsInsertion {Field Map : Type 0} (o : Embeddings Field Map) (W : Insertion Field Map)
+    : Type 0 where
   pub source : W.source < W.old.count
   pub target : W.target < W.old.count
   pub candidate : IsCandidate o W.old W.source W.target W.chosen

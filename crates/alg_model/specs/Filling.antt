@@ -14,8 +14,8 @@ use Rattle.alg_model.specs.Candidates.{map_sending, AreMissing}
 
 -- The stored map; the stored map into E and then phi; for an added field, the map by the least root
 -- of its polynomial.
-pub data IsMapInto (L : Lattice) (E F : ℕ) (phi : List (List ℕ)) (rows : List Row) (i : ℕ) : List
-    (List ℕ) → Type 0 where
+pub data IsMapInto (L : Lattice) (E F : ℕ) (phi : List (List ℕ)) (rows : List Row) (i : ℕ)
+    : List (List ℕ) → Type 0 where
   stored : {m : List (List ℕ)} → Stored L i F m → IsMapInto L E F phi rows i m
   through : {m : List (List ℕ)} → Stored L i E m
       → IsMapInto L E F phi rows i (comp (field_at rows F) m phi)
@@ -23,6 +23,7 @@ pub data IsMapInto (L : Lattice) (E F : ℕ) (phi : List (List ℕ)) (rows : Lis
       → IsLeastRoot (field_at rows F) (constants (field_at rows F) (field_at rows i).polynomial) v
       → IsMapInto L E F phi rows i (map_sending (field_at rows i) (field_at rows F) v)
 
+-- The one map which, followed by j's map into F, is i's map into F.
 pub record IsForced (L : Lattice) (E F : ℕ) (phi : List (List ℕ)) (rows : List Row) (i j : ℕ)
     (m : List (List ℕ)) : Type 0 where
   pub first : List (List ℕ)
@@ -33,13 +34,14 @@ pub record IsForced (L : Lattice) (E F : ℕ) (phi : List (List ℕ)) (rows : Li
   pub followed : comp (field_at rows F) m second ≡ first
 
 -- The maps stored before, the forced ones, and forced ones followed by stored ones.
-pub data IsStoredAfter (L : Lattice) (E F : ℕ) (phi : List (List ℕ)) (rows : List Row) (i k : ℕ) :
-    List (List ℕ) → Type 0 where
+pub data IsStoredAfter (L : Lattice) (E F : ℕ) (phi : List (List ℕ)) (rows : List Row) (i k : ℕ)
+    : List (List ℕ) → Type 0 where
   before : {m : List (List ℕ)} → Stored L i k m → IsStoredAfter L E F phi rows i k m
   forced : {m : List (List ℕ)} → IsForced L E F phi rows i k m → IsStoredAfter L E F phi rows i k m
   beyond : {j : ℕ} {m n : List (List ℕ)} → IsForced L E F phi rows i j m → Stored L j k n
       → IsStoredAfter L E F phi rows i k (comp (field_at rows k) m n)
 
+-- An added field has its number's name and the least irreducible polynomial of its degree.
 pub record IsMadeRow (n p d : ℕ) (row : Row) : Type 0 where
   pub name : row.name ≡ made_name n
   pub characteristic : row.field.characteristic ≡ p
@@ -56,6 +58,7 @@ pub record AreRowsAfter (L : Lattice) (E F : ℕ) (rows : List Row) : Type 0 whe
       → IsMadeRow (length L.rows + k) (field_at L.rows F).characteristic (slice_index degrees k)
       (slice_index_or made k no_row)
 
+-- The rows and the maps are the old ones and the added ones.
 pub record IsFilled (L : Lattice) (E F : ℕ) (phi : List (List ℕ)) (M : Lattice) : Type 0 where
   pub edition : M.edition ≡ L.edition
   pub rows : AreRowsAfter L E F M.rows

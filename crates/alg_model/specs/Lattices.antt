@@ -14,11 +14,14 @@ use Rattle.std.specs.Ordering.{nat_cmp, ordering_then}
 use Rattle.std.specs.declared.cmp.Ordering.{Ordering}
 use Rattle.alg_model.specs.Maps.{Field, IsFiniteField, degree_of, comp, identity_map, IsEmbedding, IsMeet}
 
+-- what a version of the lattice allows: its characteristics, in their order, the greatest degree,
+-- and the greatest number of fields
 pub record Edition : Type 0 where
   pub primes : List ℕ
   pub top : ℕ
   pub room : ℕ
 
+-- a named field
 pub record Row : Type 0 where
   pub name : List ℕ
   pub field : Field
@@ -27,20 +30,25 @@ pub record Row : Type 0 where
 abbrev pub pair_cmp : ℕ × ℕ → ℕ × ℕ → Ordering
 pair_cmp a b = ordering_then (nat_cmp a.0 b.0) (nat_cmp a.1 b.1)
 
+-- fields by number, and at most one map for each pair of numbers
 pub record Lattice : Type 0 where
   pub edition : Edition
   pub rows : List Row
   pub maps : FinMap pair_cmp (List (List ℕ))
 
+-- what stands past the last row
 abbrev pub no_row : Row
 no_row = record { name = []; field = record { characteristic = 0; polynomial = [] } }
 
+-- the field of a number
 abbrev pub field_at : List Row → ℕ → Field
 field_at rows i = (slice_index_or rows i no_row).field
 
+-- m is stored for i and j
 pub record Stored (L : Lattice) (i j : ℕ) (m : List (List ℕ)) : Type 0 where
   pub found : get L.maps (i, j) ≡ Some m
 
+-- M has the rows of L first, and all maps of L
 pub record Grows (L M : Lattice) : Type 0 where
   pub edition : M.edition ≡ L.edition
   pub rows : take (length L.rows) M.rows ≡ L.rows
@@ -50,10 +58,12 @@ pub record Grows (L M : Lattice) : Type 0 where
 abbrev pub prime_row : ℕ → Row
 prime_row p = record { name = codes "F" ++ decimal p; field = record { characteristic = p; polynomial = 0 ∷ 1 ∷ [] } }
 
+-- the name of an added field: `_` and its number
 abbrev pub made_name : ℕ → List ℕ
 made_name n = codes "_" ++ decimal n
 
--- a field of the edition, at number i; the names that begin with `_` are those of made fields
+-- a field of the edition, at number i; a name that begins with `_`, which is 95, is that of an added
+-- field
 pub record IsRow (edition : Edition) (i : ℕ) (row : Row) : Type 0 where
   pub field : IsFiniteField row.field
   pub characteristic : Contains edition.primes row.field.characteristic
@@ -65,6 +75,7 @@ pub record IsEdition (edition : Edition) : Type 0 where
   pub primes_differ : AllPairs (λ p q. p ≢ q) edition.primes
   pub room : edition.room < 2 ^ 64
 
+-- the prime fields come first, each row is one of the edition, and names differ
 pub record IsRows (edition : Edition) (rows : List Row) : Type 0 where
   pub of_edition : IsEdition edition
   pub prime_fields : take (length edition.primes) rows ≡ map prime_row edition.primes
@@ -72,6 +83,7 @@ pub record IsRows (edition : Edition) (rows : List Row) : Type 0 where
   pub names_differ : AllPairs (λ r s. r.name ≢ s.name) rows
   pub room : length rows ≤ edition.room
 
+-- the stored maps are embeddings, and keep the rules
 pub record Compatible (L : Lattice) : Type 0 where
   -- one map at most is found for a pair, and it is an embedding
   pub within : {i j : ℕ} {m : List (List ℕ)} → Stored L i j m
