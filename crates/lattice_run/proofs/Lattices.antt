@@ -54,7 +54,7 @@ prime_names_differ : (p q : ℕ) → IsInTable p → IsInTable q → p < q
     → codes "F" ++ decimal p ≢ codes "F" ++ decimal q
 prime_names_differ p q h l less e =
     let first : (1 < p) × (p < 32) = table_small p h in
-    let second : (1 < q) × (q < 32) = characteristic_small q l in
+    let second : (1 < q) × (q < 32) = table_small q l in
     let same : p ≡ q = decimal_injective p q (omega arith) (omega arith) (append_cancel_left (codes "F") (decimal p) (decimal q) e) in
     absurd (omega arith)
 

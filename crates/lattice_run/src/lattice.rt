@@ -47,9 +47,12 @@ impl Row {
         ensures { AnswersTakenName self.now polynomial.now.prime polynomial.now.coefficients
             number result }
     {
-        let same = self.polynomial.prime().number() == polynomial.prime().number()
-            && self.polynomial.coefficients() == polynomial.coefficients();
-        if same {
+        if are_same(
+            self.polynomial.prime().number(),
+            self.polynomial.coefficients(),
+            polynomial.prime().number(),
+            polynomial.coefficients(),
+        ) {
             Reply::Declared {
                 number,
                 already: true,
@@ -58,6 +61,13 @@ impl Row {
             Reply::Refused(StepRefusal::NameTaken(number))
         }
     }
+}
+
+// Whether two primes and two lists of coefficients are the same.
+fn are_same(p: u8, f: &[u8], q: u8, g: &[u8]) -> bool
+    ensures { IsTrue result ↔ ((p ≡ q) × (f.now ≡ g.now)) }
+{
+    p == q && f == g
 }
 
 /// The fields of the lattice, by their numbers: the prime fields first, then fields of degree 2 to
@@ -103,11 +113,10 @@ fn characteristic_of(p: u32) -> Option<Prime>
 }
 
 // The place of the first number that isn't below p, of numbers with such a one.
-fn first_too_large(p: Prime, numbers: &[u8]) -> usize
+fn first_too_large(p: u8, numbers: &[u8]) -> usize
     requires { ¬ All (λ a. a < p) numbers.now }
     ensures { IsFirstTooLarge p numbers.now result }
 {
-    let p = p.number();
     numbers.iter().position(|number| *number >= p).unwrap()
 }
 
@@ -126,7 +135,7 @@ fn well_formed(p: u32, digits: &Digits) -> Result<Poly, StepRefusal>
         return Err(StepRefusal::DegreeOutOfRange(degree as u32));
     }
     let Some(polynomial) = Poly::of_slice(prime, numbers) else {
-        let place = first_too_large(prime, numbers);
+        let place = first_too_large(prime.number(), numbers);
         return Err(StepRefusal::CoefficientTooLarge(place as u32));
     };
     if numbers[degree] != 1 {
