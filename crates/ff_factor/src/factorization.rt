@@ -11,55 +11,23 @@ ghost use Rattle.ff_factor.specs.PrivateSplitting.{Collects, IsCofactor};
 
 use crate::linear::linear_factor;
 use crate::splitting::{Finding, split};
-use arrayvec::ArrayVec;
+use ff_lists::BoundedList;
 use ff_poly::{MAX_DEGREE, Poly};
 use std::cmp::Ordering;
-use std::marker::Model;
 
 /// At most `MAX_DEGREE` polynomials.
-#[derive(Drop)]
-pub struct FactorList {
-    polynomials: ArrayVec<Poly, MAX_DEGREE>,
-}
+pub type FactorList = BoundedList<Poly, MAX_DEGREE>;
 
-impl Model for FactorList {
-    ghost use Rattle.std.specs.Prelude.{List};
-    ghost use Rattle.ff_poly.specs.Polynomial.{Polynomial};
-
-    ghost Value = { List Polynomial };
-
-    ghost view = { λ a. a.polynomials.items };
-}
-
-impl FactorList {
-    // The empty list.
-    pub(crate) fn new() -> FactorList
-        ensures { result ≡ [] }
-    {
-        FactorList {
-            polynomials: ArrayVec::new(),
-        }
-    }
-
-    /// The polynomials, in order.
-    pub fn items(&self) -> &[Poly]
-        ensures value { result.now ≡ self.now }
-        ensures whole { length self.now ≤ MAX_DEGREE }
-    {
-        self.polynomials.as_slice()
-    }
-
-    // Puts an irreducible polynomial before the first that comes after it.
-    fn add(&mut self, f: &Poly)
-        requires monic { IsMonic (residues f.now.prime) f.now.coefficients }
-        requires irreducible { IsIrreducible (residues f.now.prime) f.now.coefficients }
-        requires room { length self.old < MAX_DEGREE }
-        requires primes { AreOver f.now.prime self.old }
-        ensures { Collects f.now self.old self.new }
-    {
-        let place = place_of(self.items(), f);
-        self.polynomials.insert(place, f.copy());
-    }
+// Puts an irreducible polynomial before the first that comes after it.
+fn add(list: &mut FactorList, f: &Poly)
+    requires monic { IsMonic (residues f.now.prime) f.now.coefficients }
+    requires irreducible { IsIrreducible (residues f.now.prime) f.now.coefficients }
+    requires room { length list.old < MAX_DEGREE }
+    requires primes { AreOver f.now.prime list.old }
+    ensures { Collects f.now list.old list.new }
+{
+    let place = place_of(list.items(), f);
+    list.insert(place, f.copy());
 }
 
 /// The monic irreducible factors of `f`, with repeats, in the order of polynomials.
@@ -89,12 +57,12 @@ pub(crate) fn collect(f: &Poly, list: &mut FactorList)
 {
     if let Some(factor) = linear_factor(f) {
         let rest = cofactor(f, &factor);
-        list.add(&factor);
+        add(list, &factor);
         collect(&rest, list);
         return;
     }
     match split(f) {
-        Finding::Irreducible(_) => list.add(f),
+        Finding::Irreducible(_) => add(list, f),
         Finding::Divisor(divisor) => {
             let quotient = cofactor(f, &divisor);
             collect(&divisor, list);

@@ -14,6 +14,7 @@ ghost use Rattle.ff_factor.specs.PrivateSplitting.{IsFinding, IsNonzeroKernelCol
 use crate::Cert;
 use crate::columns::matrix_in_turn;
 use crate::polynomials::{constant, every, poly_of, without_constant};
+use ff_lists::Copies;
 use ff_matrix::{Column, Echelon, Matrix};
 use ff_poly::{MAX_DEGREE, Poly};
 

@@ -53,7 +53,7 @@ impl<T: Default + Drop, const N: usize> BoundedList<T, N> {
     /// The items, in their order.
     pub fn items(&self) -> &[T]
         ensures value { result.now ≡ self.now }
-        ensures fits { length self.now ≤ N }
+        ensures whole { length self.now ≤ N }
     {
         self.items.as_slice()
     }

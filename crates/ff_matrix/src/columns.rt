@@ -1,7 +1,8 @@
 //! Columns of residues, and lists of columns.
-ghost use Rattle.std.specs.Prelude.{◌≡◌, ◌+◌, ◌<◌, ◌≤◌, [], ◌∷◌, ◌++◌, length};
+ghost use Rattle.std.specs.Prelude.{◌≡◌, ◌<◌, ◌≤◌, [], ◌∷◌, ◌++◌, length};
 
 use arrayvec::ArrayVec;
+use ff_lists::{BoundedList, Copies, fixed};
 use ff_poly::MAX_DEGREE;
 use std::marker::Model;
 
@@ -25,11 +26,7 @@ impl Column {
         requires { length c.now ≤ MAX_DEGREE }
         ensures { result ≡ c.now }
     {
-        let mut numbers = ArrayVec::new();
-        match numbers.try_extend_from_slice(c) {
-            Ok(()) => Column { numbers },
-            Err(_) => unreachable!(),
-        }
+        Column { numbers: fixed(c) }
     }
 
     /// The numbers, the first one on top.
@@ -38,13 +35,6 @@ impl Column {
         ensures whole { length self.now ≤ MAX_DEGREE }
     {
         self.numbers.as_slice()
-    }
-
-    /// An equal column.
-    pub fn copy(&self) -> Column
-        ensures { result ≡ self.now }
-    {
-        Column::of_slice(self.numbers())
     }
 
     // Appends a number at the bottom.
@@ -56,62 +46,11 @@ impl Column {
     }
 }
 
+impl Copies for Column {
+    fn copy(&self) -> Self {
+        Column::of_slice(self.numbers())
+    }
+}
+
 /// At most `MAX_DEGREE` columns.
-#[derive(Default, Drop)]
-pub struct ColumnList {
-    columns: ArrayVec<Column, MAX_DEGREE>,
-}
-
-impl Model for ColumnList {
-    ghost use Rattle.std.specs.Prelude.{ℕ, List};
-
-    ghost Value = { List (List ℕ) };
-
-    ghost view = { λ a. a.columns.items };
-}
-
-impl ColumnList {
-    // The empty list.
-    pub(crate) fn new() -> ColumnList
-        ensures { result ≡ [] }
-    {
-        ColumnList {
-            columns: ArrayVec::new(),
-        }
-    }
-
-    /// The columns, in order.
-    pub fn items(&self) -> &[Column]
-        ensures value { result.now ≡ self.now }
-        ensures whole { length self.now ≤ MAX_DEGREE }
-    {
-        self.columns.as_slice()
-    }
-
-    // Appends a column.
-    pub(crate) fn push(&mut self, column: Column)
-        requires { length self.old < MAX_DEGREE }
-        ensures { self.new ≡ self.old ++ column ∷ [] }
-    {
-        self.columns.push(column);
-    }
-
-    /// An equal list.
-    pub fn copy(&self) -> ColumnList
-        ensures { result ≡ self.now }
-    {
-        copied(self.items())
-    }
-}
-
-// The list of these columns.
-pub(crate) fn copied(columns: &[Column]) -> ColumnList
-    requires { length columns.now ≤ MAX_DEGREE }
-    ensures { result ≡ columns.now }
-{
-    let mut list = ColumnList::new();
-    for column in columns {
-        list.push(column.copy());
-    }
-    list
-}
+pub type ColumnList = BoundedList<Column, MAX_DEGREE>;

@@ -3,7 +3,6 @@ ghost use Rattle.std.specs.Prelude.{◌≡◌, ◌+◌, ◌<◌, ◌≤◌, leng
 ghost use Rattle.alg_model.specs.Coefficients.{residues, mod_ops};
 ghost use Rattle.alg_model.specs.Matrices.{entry, combination, matrix_apply, matrix_product, IsColumn};
 
-use crate::columns::copied;
 use crate::places::{add_multiple, zeros};
 use crate::{Column, ColumnList};
 use ff_poly::{MAX_DEGREE, Prime};
@@ -40,7 +39,7 @@ impl Matrix {
         ensures columns { result.matrix.columns ≡ columns.now }
         ensures whole { IsModularMatrix result }
     {
-        Matrix::of_list(p, rows, copied(columns))
+        Matrix::of_list(p, rows, ColumnList::of(columns))
     }
 
     // The same from a list, which it keeps.

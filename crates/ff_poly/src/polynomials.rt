@@ -7,6 +7,7 @@ ghost use Rattle.alg_model.specs.Factors.{order_by};
 
 use crate::{MAX_POLY, Prime};
 use arrayvec::ArrayVec;
+use ff_lists::{Copies, fixed};
 use std::cmp::Ordering;
 use std::marker::Model;
 
@@ -37,6 +38,12 @@ impl Default for Poly {
     }
 }
 
+impl Copies for Poly {
+    fn copy(&self) -> Self {
+        Poly::copy(self)
+    }
+}
+
 impl Poly {
     ghost use Rattle.ff_poly.specs.Polynomial.{IsPoly};
 
@@ -64,7 +71,7 @@ impl Poly {
         let _number = p.number();
         Poly {
             prime: p,
-            coefficients: stored(&c[..trimmed_len(c)]),
+            coefficients: fixed(&c[..trimmed_len(c)]),
         }
     }
 
@@ -98,7 +105,7 @@ impl Poly {
     {
         Poly {
             prime: self.prime,
-            coefficients: stored(self.coefficients.as_slice()),
+            coefficients: fixed(self.coefficients.as_slice()),
         }
     }
 
@@ -136,18 +143,6 @@ fn trimmed_len(c: &[u8]) -> usize
         n -= 1;
     }
     0
-}
-
-// The numbers of c.
-fn stored(c: &[u8]) -> ArrayVec<u8, MAX_POLY>
-    requires { length c.now ≤ MAX_POLY }
-    ensures { result.items ≡ c.now }
-{
-    let mut numbers = ArrayVec::new();
-    match numbers.try_extend_from_slice(c) {
-        Ok(()) => numbers,
-        Err(_) => unreachable!(),
-    }
 }
 
 // Compares two lists of one length from the highest place down.
