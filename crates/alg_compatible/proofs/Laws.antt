@@ -1,4 +1,4 @@
--- The laws, each from its lemma; the statements and what they say are in specs/Laws.antt.
+-- The laws, each from its lemma; the statements and what they say are in specs/Theorems.antt.
 use Rattle.std.proofs.Common.{ℕ, ◌≤◌, List, length, Option, sym, subst}
 use Rattle.alg_model.specs.Lattices.{Lattice, Row, IsRows}
 use Rattle.alg_model.specs.Candidates.{embedding_by, IsCandidate}

@@ -1,7 +1,7 @@
 -- The values of a field: residues of polynomials modulo a monic f, as lists of exactly deg f coefficients.
 --     padded o n xs            xs with zeros at its end up to n places
 --     remainder o f xs           the remainder of xs by the monic f, as a list of deg f places
---     value_ops o f            sums placewise, products remainder
+--     value_ops o f            sums placewise, products reduced
 --     values c f               the values over c modulo f
 use Rattle.std.specs.Prelude.{◌≡◌, ℕ, ◌-◌, List, [], ◌∷◌, ◌++◌, length, map, replicate, take, All, slice_index_or}
 use Rattle.std.specs.List.{list_all}
