@@ -1,6 +1,6 @@
 //! What sessions do with a gate over amounts: the use of a gate in small.
-ghost use Rattle.std.specs.Prelude.{◌≡◌, ◌≢◌, ℕ, List, [], ◌∷◌, IfOk, OnOk, OnErr};
-ghost use Rattle.lat_gate.specs.History.{of_number};
+ghost use Rattle.std.specs.Prelude.{◌≡◌, ◌≢◌, ◌<◌, ℕ, List, [], ◌∷◌, IfOk, OnOk, OnErr};
+ghost use Rattle.lat_gate.specs.History.{BeginsWith, of_number};
 ghost use Rattle.lat_gate.specs.Seats.{dealt};
 ghost use Rattle.lat_gate.specs.Passes.{gate_id, known, IsPassOf};
 ghost use Rattle.lat_gate.specs.Sessions.{number_of, HasOnly, Adds, Sees, IsSamePass, tally};
@@ -14,7 +14,7 @@ use std::alloc::Global;
 use std::sync::Wait;
 use std::thread::{Threads, join};
 
-/// A gate over no amounts, with the passes 1 and 2. It fails for want of memory alone.
+/// A gate over no amounts, with the passes 1 and 2.
 pub fn open_two(alloc: Global) -> Result<(Gate<Amounts>, Pass<Amounts>, Pass<Amounts>), NoMemory>
     ensures first { IfOk result (λ made. known made.1 ≡ dealt (gate_id made.0) [] [] 2 1) }
     ensures second { IfOk result (λ made. known made.2 ≡ dealt (gate_id made.0) [] [] 2 2) }
@@ -32,8 +32,8 @@ pub fn open_two(alloc: Global) -> Result<(Gate<Amounts>, Pass<Amounts>, Pass<Amo
 /// Closes a gate with its passes 1 and 2, and gives the amounts.
 ///
 /// Requires that both are of this gate, that it has no other passes, and that each has its number
-/// alone. The amounts of each number are its pass's own, in order; those of other numbers are as at
-/// the opening.
+/// alone. The amounts begin with what each pass has seen. Those of each number are its pass's own, in
+/// order; those of other numbers are as at the opening.
 pub fn close_two(gate: Gate<Amounts>, first: Pass<Amounts>, second: Pass<Amounts>) -> Amounts
     requires of_gate { IsPassOf gate first × IsPassOf gate second }
     requires two { (known first).passes ≡ 2 }
@@ -44,6 +44,8 @@ pub fn close_two(gate: Gate<Amounts>, first: Pass<Amounts>, second: Pass<Amounts
         of_number number_of 2 result ≡ mine }
     ensures others { (n : ℕ) → n ≢ 1 → n ≢ 2 →
         of_number number_of n result ≡ of_number number_of n (known first).opening }
+    ensures begins_first { BeginsWith result (known first).seen }
+    ensures begins_second { BeginsWith result (known second).seen }
 {
     let mut kept = first;
     gate.join(&mut kept, second);
@@ -74,7 +76,8 @@ pub fn add<R: Wait>(
 }
 
 /// Adds as many amounts as said, 0, 1, 2 and so on, under the number of the pass, which has none yet.
-/// Other sessions may add theirs in between. It stops where there is no memory.
+/// Other sessions may add theirs in between. Where one is not added it stops: on `Err` the pass has the first
+/// of these amounts, fewer than said.
 pub fn add_each<R: Wait>(
     rt: &R,
     gate: &Gate<Amounts>,
@@ -87,6 +90,8 @@ pub fn add_each<R: Wait>(
     ensures same { IsSamePass (known pass) (known result.0) }
     ensures number { HasOnly number (known result.0) }
     ensures ok { OnOk result.1 ((known result.0).own ≡ (number, tally number count) ∷ []) }
+    ensures err { OnErr result.1 ((done : ℕ) × (done < count)
+        × ((known result.0).own ≡ (number, tally number done) ∷ [])) }
 {
     let mut pass = pass;
     for amount in 0..count {
@@ -102,8 +107,7 @@ pub fn add_each<R: Wait>(
 /// Two sessions beside each other add as many amounts each as said; then the gate is closed.
 ///
 /// Whatever the order in which they took the machine, the amounts of each are all there, once
-/// each and in the order in which it added them, and there are no others. It fails for want of
-/// memory alone.
+/// each and in the order in which it added them, and there are no others.
 pub fn add_beside<R: Threads + Wait + Sync>(
     rt: &R,
     alloc: Global,
