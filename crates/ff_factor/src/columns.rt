@@ -1,9 +1,10 @@
 //! The matrix of `v -> v^p - v` on the polynomials modulo `f`.
-ghost use Rattle.std.specs.Prelude.{◌≡◌, ℕ, ◌+◌, ◌-◌, ◌*◌, ◌^◌, ◌<◌, ◌≤◌, ◌==◌, if◌then◌else◌, ◌∷◌, length, replicate, map, All, slice_index};
+ghost use Rattle.std.specs.Prelude.{◌≡◌, ℕ, ◌+◌, ◌-◌, ◌*◌, ◌^◌, ◌<◌, ◌≤◌, ◌==◌, if◌then◌else◌, [], ◌∷◌, length, replicate, map, All, slice_index};
 ghost use Rattle.std.specs.List.{range_with_len};
 ghost use Rattle.alg_model.specs.Coefficients.{residues, mod_ops};
 ghost use Rattle.alg_model.specs.Factors.{IsMonic};
-ghost use Rattle.alg_model.specs.Values.{degree, times_x};
+ghost use Rattle.alg_model.specs.Polynomials.{poly_power};
+ghost use Rattle.alg_model.specs.Values.{degree, times_x, remainder};
 ghost use Rattle.alg_model.specs.Matrices.{IsColumn};
 ghost use Rattle.ff_poly.specs.Polynomial.{IsPoly};
 ghost use Rattle.ff_factor.specs.Certificates.{berlekamp_column, berlekamp_matrix};
@@ -26,21 +27,66 @@ pub(crate) fn matrix_in_turn(f: &Poly) -> Matrix
     Matrix::of_columns(f.prime(), f.coefficients().len() - 1, columns.as_slice())
 }
 
-// The columns, from the places of 1, x^p, x^(2 p), .. in turn.
+// The columns, from 1, x^p, x^(2 p), .. in turn, by the matrix of the multiplication with x^p.
 fn columns_in_turn(f: &Poly) -> ArrayVec<Column, MAX_DEGREE>
     requires monic { IsMonic (residues f.now.prime) f.now.coefficients }
     requires not_constant { 1 < length f.now.coefficients }
     requires degree { length f.now.coefficients ≤ MAX_DEGREE + 1 }
     ensures columns { result.items ≡ (berlekamp_matrix (mod_ops f.now.prime) f.now.prime f.now.coefficients).columns }
 {
+    let degree = f.coefficients().len() - 1;
+    let table = power_table(f);
+    let mut power = column_of_one(f.prime(), degree);
+    let mut columns = ArrayVec::new();
+    for k in 1..degree {
+        power = table.apply(&power);
+        columns.push(gap_column(f, power.numbers(), k));
+    }
+    columns
+}
+
+// The places of 1 modulo p.
+fn column_of_one(p: Prime, n: usize) -> Column
+    requires places { 0 < n }
+    requires room { n ≤ MAX_DEGREE }
+    ensures { result ≡ residues_modulo p (1 ∷ replicate (n - 1) 0) }
+{
+    let places = places_of_one(n);
+    let one = residues_of_places(p, places.as_slice());
+    Column::of_slice(one.as_slice())
+}
+
+// The matrix of v -> x^p * v modulo f.
+fn power_table(f: &Poly) -> Matrix
+    requires monic { IsMonic (residues f.now.prime) f.now.coefficients }
+    requires not_constant { 1 < length f.now.coefficients }
+    requires degree { length f.now.coefficients ≤ MAX_DEGREE + 1 }
+    ensures prime { result.prime ≡ f.now.prime }
+    ensures rows { result.matrix.rows ≡ degree f.now.coefficients }
+    ensures columns { let o = mod_ops f.now.prime in result.matrix.columns
+        ≡ map (λ j. remainder o f.now.coefficients (poly_power o (0 ∷ 1 ∷ []) j)) (range_with_len f.now.prime (degree f.now.coefficients)) }
+{
+    let columns = power_columns(f);
+    Matrix::of_columns(f.prime(), f.coefficients().len() - 1, columns.as_slice())
+}
+
+// Its columns, the places of x^p, x^(p + 1), ..
+fn power_columns(f: &Poly) -> ArrayVec<Column, MAX_DEGREE>
+    requires monic { IsMonic (residues f.now.prime) f.now.coefficients }
+    requires not_constant { 1 < length f.now.coefficients }
+    requires degree { length f.now.coefficients ≤ MAX_DEGREE + 1 }
+    ensures columns { let o = mod_ops f.now.prime in result.items
+        ≡ map (λ j. remainder o f.now.coefficients (poly_power o (0 ∷ 1 ∷ []) j)) (range_with_len f.now.prime (degree f.now.coefficients)) }
+{
     let p = f.prime();
     let degree = f.coefficients().len() - 1;
     let mut places = places_of_one(degree);
+    multiply_by_power(places.as_mut_slice(), f);
     let mut columns = ArrayVec::new();
-    for k in 1..degree {
-        multiply_by_power(places.as_mut_slice(), f);
+    for _j in 0..degree {
         let power = residues_of_places(p, places.as_slice());
-        columns.push(gap_column(f, power.as_slice(), k));
+        columns.push(Column::of_slice(power.as_slice()));
+        multiply_by_variable(places.as_mut_slice(), f.coefficients(), p);
     }
     columns
 }
