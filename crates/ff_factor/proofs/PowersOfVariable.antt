@@ -83,6 +83,9 @@ module _ (f : Polynomial) (whole : IsPoly f) (monic : IsMonic (residues f.prime)
             ∙ Congruences.remainder_of_itself (residues_propositional f.prime) F (f.coefficients, whole.polynomial) not_constant monic (rest g) v;
       }
 
+  pub power_from_places : (k : ℕ) (xs c : List ℕ) → ArePlacesOfPower f (k * f.prime) xs → c ≡ residues_modulo f.prime xs → IsPowerOfVariable f k c
+  power_from_places k xs c h same = power_from_remainder k c (same ∙ h)
+
   -- **from x^(k p) to x^((k + 1) p), by the matrix of x^p, x^(p + 1), ..**
   pub next_from_table : (k : ℕ) (t : Matrix ℕ) (c : List ℕ) → t.rows ≡ degree f.coefficients
       → t.columns ≡ map (λ j. rest (poly_power o x j)) (range_with_len f.prime (degree f.coefficients))

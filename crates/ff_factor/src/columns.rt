@@ -15,6 +15,9 @@ use arrayvec::ArrayVec;
 use ff_matrix::{Column, Matrix};
 use ff_poly::{MAX_DEGREE, Poly, Prime};
 
+// Up to this prime the steps from one power of x^p to the next are fewer than what the matrix takes.
+const FEW_STEPS: u8 = 13;
+
 /// The columns 1 to `n - 1` of the matrix, for `f` of degree `n`; each power of `x^p` is made from the one before.
 pub(crate) fn matrix_in_turn(f: &Poly) -> Matrix
     requires monic { IsMonic (residues f.now.prime) f.now.coefficients }
@@ -27,8 +30,41 @@ pub(crate) fn matrix_in_turn(f: &Poly) -> Matrix
     Matrix::of_columns(f.prime(), f.coefficients().len() - 1, columns.as_slice())
 }
 
-// The columns, from 1, x^p, x^(2 p), .. in turn, by the matrix of the multiplication with x^p.
+// The columns, in the way that is faster for the prime.
 fn columns_in_turn(f: &Poly) -> ArrayVec<Column, MAX_DEGREE>
+    requires monic { IsMonic (residues f.now.prime) f.now.coefficients }
+    requires not_constant { 1 < length f.now.coefficients }
+    requires degree { length f.now.coefficients ≤ MAX_DEGREE + 1 }
+    ensures columns { result.items ≡ (berlekamp_matrix (mod_ops f.now.prime) f.now.prime f.now.coefficients).columns }
+{
+    if f.prime().number() <= FEW_STEPS {
+        columns_by_steps(f)
+    } else {
+        columns_by_table(f)
+    }
+}
+
+// The same by p multiplications with x for each column.
+fn columns_by_steps(f: &Poly) -> ArrayVec<Column, MAX_DEGREE>
+    requires monic { IsMonic (residues f.now.prime) f.now.coefficients }
+    requires not_constant { 1 < length f.now.coefficients }
+    requires degree { length f.now.coefficients ≤ MAX_DEGREE + 1 }
+    ensures columns { result.items ≡ (berlekamp_matrix (mod_ops f.now.prime) f.now.prime f.now.coefficients).columns }
+{
+    let p = f.prime();
+    let degree = f.coefficients().len() - 1;
+    let mut places = places_of_one(degree);
+    let mut columns = ArrayVec::new();
+    for k in 1..degree {
+        multiply_by_power(places.as_mut_slice(), f);
+        let power = residues_of_places(p, places.as_slice());
+        columns.push(gap_column(f, power.as_slice(), k));
+    }
+    columns
+}
+
+// The columns, from 1, x^p, x^(2 p), .. in turn, by the matrix of the multiplication with x^p.
+fn columns_by_table(f: &Poly) -> ArrayVec<Column, MAX_DEGREE>
     requires monic { IsMonic (residues f.now.prime) f.now.coefficients }
     requires not_constant { 1 < length f.now.coefficients }
     requires degree { length f.now.coefficients ≤ MAX_DEGREE + 1 }

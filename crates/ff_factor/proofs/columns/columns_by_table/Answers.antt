@@ -8,7 +8,7 @@ use Rattle.alg_model.specs.Matrices.{IsColumn}
 use Rattle.ff_factor.specs.Certificates.{berlekamp_column}
 use Rattle.ff_factor.specs.InnerSplitting.{residues_modulo}
 use Rattle.ff_factor.proofs.PowersOfVariable.{places_of_one, power_column, power_from_remainder, next_column}
-use Rattle.ff_factor.proofs.columns.columns_in_turn.Goals as goal
+use Rattle.ff_factor.proofs.columns.columns_by_table.Goals as goal
 
 pub loop-k-init : goal.loop-k-init
 loop-k-init c =

@@ -4,7 +4,7 @@ use Rattle.alg_model.specs.Coefficients.{mod_ops}
 use Rattle.alg_model.specs.Polynomials.{poly_power}
 use Rattle.alg_model.specs.Values.{remainder}
 use Rattle.ff_factor.specs.Certificates.{berlekamp_column}
-use Rattle.ff_factor.proofs.columns.columns_in_turn.Given as goal
+use Rattle.ff_factor.proofs.columns.columns_by_table.Given as goal
 
 abbrev pub invariant-loop-k : goal.invariant-loop-k
 invariant-loop-k l = record {
