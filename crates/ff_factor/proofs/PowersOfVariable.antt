@@ -14,11 +14,10 @@ use Rattle.alg_fields.proofs.Remainders.{remainder_value, remainder_one}
 use Rattle.ff_poly.specs.Polynomial.{Polynomial, IsPoly}
 use Rattle.ff_matrix.specs.ModularMatrix.{ModularMatrix}
 use Rattle.ff_factor.specs.Certificates.{berlekamp_column}
-use Rattle.ff_factor.specs.InnerSplitting.{IsPowerOfVariable, ArePlacesOfPower, residues_modulo}
+use Rattle.ff_factor.specs.InnerSplitting.{IsPowerOfVariable, ArePlacesOfPower}
 use Rattle.std.specs.List.{range_with_len}
 use Rattle.ff_factor.proofs.BerlekampColumns
 use Rattle.ff_factor.proofs.Congruences
-use Rattle.ff_factor.proofs.TimesVariable.{residues_of_zeros}
 
 module _ (f : Polynomial) (whole : IsPoly f) (monic : IsMonic (residues f.prime) f.coefficients) (not_constant : 1 < length f.coefficients) where
   abbrev o : Ops ℕ
@@ -51,13 +50,10 @@ module _ (f : Polynomial) (whole : IsPoly f) (monic : IsMonic (residues f.prime)
 
   -- **the powers of x in turn**
   pub places_of_one : ArePlacesOfPower f 0 (1 ∷ replicate (degree f.coefficients - 1) 0)
-  places_of_one =
-      ap₂ ◌∷◌ (mod-eq_of_lt (two_le_characteristic f.prime whole.characteristic))
-      (residues_of_zeros f.prime (degree f.coefficients - 1))
-      ∙ sym (remainder_one (residues_propositional f.prime) F (f.coefficients, whole.polynomial) not_constant monic)
+  places_of_one = sym (remainder_one (residues_propositional f.prime) F (f.coefficients, whole.polynomial) not_constant monic)
 
   pub places_of_next : (e : ℕ) (xs ys : List ℕ) → ArePlacesOfPower f e xs
-      → residues_modulo f.prime ys ≡ times_x o f.coefficients (residues_modulo f.prime xs) → ArePlacesOfPower f (suc e) ys
+      → ys ≡ times_x o f.coefficients xs → ArePlacesOfPower f (suc e) ys
   places_of_next e xs ys h k =
       k ∙ ap (times_x o f.coefficients) h
       ∙ sym (Congruences.next_power (residues_propositional f.prime) F (f.coefficients, whole.polynomial) not_constant monic e)
@@ -83,7 +79,7 @@ module _ (f : Polynomial) (whole : IsPoly f) (monic : IsMonic (residues f.prime)
             ∙ Congruences.remainder_of_itself (residues_propositional f.prime) F (f.coefficients, whole.polynomial) not_constant monic (rest g) v;
       }
 
-  pub power_from_places : (k : ℕ) (xs c : List ℕ) → ArePlacesOfPower f (k * f.prime) xs → c ≡ residues_modulo f.prime xs → IsPowerOfVariable f k c
+  pub power_from_places : (k : ℕ) (xs c : List ℕ) → ArePlacesOfPower f (k * f.prime) xs → c ≡ xs → IsPowerOfVariable f k c
   power_from_places k xs c h same = power_from_remainder k c (same ∙ h)
 
   -- **from x^(k p) to x^((k + 1) p), by the matrix of x^p, x^(p + 1), ..**

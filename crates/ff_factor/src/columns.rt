@@ -8,7 +8,7 @@ ghost use Rattle.alg_model.specs.Values.{degree, times_x, remainder};
 ghost use Rattle.alg_model.specs.Matrices.{IsColumn};
 ghost use Rattle.ff_poly.specs.Polynomial.{IsPoly};
 ghost use Rattle.ff_factor.specs.Certificates.{berlekamp_column, berlekamp_matrix};
-ghost use Rattle.ff_factor.specs.InnerSplitting.{IsPowerOfVariable, ArePlacesOfPower, residues_modulo};
+ghost use Rattle.ff_factor.specs.InnerSplitting.{IsPowerOfVariable, ArePlacesOfPower};
 
 use crate::polynomials::variable;
 use arrayvec::ArrayVec;
@@ -51,14 +51,13 @@ fn columns_by_steps(f: &Poly) -> ArrayVec<Column, MAX_DEGREE>
     requires degree { length f.now.coefficients ≤ MAX_DEGREE + 1 }
     ensures columns { result.items ≡ (berlekamp_matrix (mod_ops f.now.prime) f.now.prime f.now.coefficients).columns }
 {
-    let p = f.prime();
+    let _prime = f.prime();
     let degree = f.coefficients().len() - 1;
     let mut places = places_of_one(degree);
     let mut columns = ArrayVec::new();
     for k in 1..degree {
         multiply_by_power(places.as_mut_slice(), f);
-        let power = residues_of_places(p, places.as_slice());
-        columns.push(gap_column(f, power.as_slice(), k));
+        columns.push(gap_column(f, places.as_slice(), k));
     }
     columns
 }
@@ -72,24 +71,14 @@ fn columns_by_table(f: &Poly) -> ArrayVec<Column, MAX_DEGREE>
 {
     let degree = f.coefficients().len() - 1;
     let table = power_table(f);
-    let mut power = column_of_one(f.prime(), degree);
+    let _prime = f.prime();
+    let mut power = Column::of_slice(&places_of_one(degree));
     let mut columns = ArrayVec::new();
     for k in 1..degree {
         power = table.apply(&power);
         columns.push(gap_column(f, power.numbers(), k));
     }
     columns
-}
-
-// The places of 1 modulo p.
-fn column_of_one(p: Prime, n: usize) -> Column
-    requires places { 0 < n }
-    requires room { n ≤ MAX_DEGREE }
-    ensures { result ≡ residues_modulo p (1 ∷ replicate (n - 1) 0) }
-{
-    let places = places_of_one(n);
-    let one = residues_of_places(p, places.as_slice());
-    Column::of_slice(one.as_slice())
 }
 
 // The matrix of v -> x^p * v modulo f.
@@ -120,15 +109,14 @@ fn power_columns(f: &Poly) -> ArrayVec<Column, MAX_DEGREE>
     multiply_by_power(places.as_mut_slice(), f);
     let mut columns = ArrayVec::new();
     for _j in 0..degree {
-        let power = residues_of_places(p, places.as_slice());
-        columns.push(Column::of_slice(power.as_slice()));
+        columns.push(Column::of_slice(places.as_slice()));
         multiply_by_variable(places.as_mut_slice(), f.coefficients(), p);
     }
     columns
 }
 
 // The n places of 1.
-fn places_of_one(n: usize) -> ArrayVec<u32, MAX_DEGREE>
+fn places_of_one(n: usize) -> ArrayVec<u8, MAX_DEGREE>
     requires places { 0 < n }
     requires room { n ≤ MAX_DEGREE }
     ensures { result.items ≡ 1 ∷ replicate (n - 1) 0 }
@@ -142,13 +130,13 @@ fn places_of_one(n: usize) -> ArrayVec<u32, MAX_DEGREE>
 }
 
 // Multiplies by x^p modulo f.
-fn multiply_by_power(places: &mut [u32], f: &Poly)
+fn multiply_by_power(places: &mut [u8], f: &Poly)
     requires monic { IsMonic (residues f.now.prime) f.now.coefficients }
     requires not_constant { 1 < length f.now.coefficients }
     requires places { length places.old ≡ degree f.now.coefficients }
-    requires small { All (λ x. x < 2 ^ 30) places.old }
+    requires residues { All (λ x. x < f.now.prime) places.old }
     ensures places { length places.new ≡ length places.old }
-    ensures growth { (b : ℕ) → All (λ x. x < b) places.old → All (λ x. x < b + 2 ^ 18) places.new }
+    ensures residues { All (λ x. x < f.now.prime) places.new }
     ensures power { (e : ℕ) → ArePlacesOfPower f.now e places.old → ArePlacesOfPower f.now (e + f.now.prime) places.new }
 {
     let p = f.prime();
@@ -157,37 +145,24 @@ fn multiply_by_power(places: &mut [u32], f: &Poly)
     }
 }
 
-// Multiplies by x modulo f: shifts up by one, and adds the multiple of f that takes the top place off, modulo p.
-fn multiply_by_variable(places: &mut [u32], f: &[u8], p: Prime)
+// Multiplies by x modulo f: shifts up by one, and adds the multiple of f that takes the top place off.
+fn multiply_by_variable(places: &mut [u8], f: &[u8], p: Prime)
     requires places { 0 < length places.old }
     requires sizes { length f.now ≡ length places.old + 1 }
-    requires residues { All (λ x. x < p) f.now }
-    requires small { All (λ x. x < 2 ^ 31) places.old }
+    requires divisor { All (λ x. x < p) f.now }
+    requires residues { All (λ x. x < p) places.old }
     ensures places { length places.new ≡ length places.old }
-    ensures growth { (b : ℕ) → All (λ x. x < b) places.old → All (λ x. x < b + 2 ^ 12) places.new }
-    ensures product { residues_modulo p places.new ≡ times_x (mod_ops p) f.now (residues_modulo p places.old) }
+    ensures residues { All (λ x. x < p) places.new }
+    ensures product { places.new ≡ times_x (mod_ops p) f.now places.old }
 {
-    let number = p.number() as u32;
-    let multiple = number - places[places.len() - 1] % number;
+    let _number = p.number();
+    let multiple = p.neg(places[places.len() - 1]) as u16;
     let mut below = 0;
     for i in 0..places.len() {
-        let place = places[i];
-        places[i] = below + multiple * f[i] as u32;
+        let place = places[i] as u16;
+        places[i] = p.reduced(multiple * f[i] as u16 + below) as u8;
         below = place;
     }
-}
-
-// The places modulo p.
-fn residues_of_places(p: Prime, places: &[u32]) -> ArrayVec<u8, MAX_DEGREE>
-    requires { length places.now ≤ MAX_DEGREE }
-    ensures { result.items ≡ residues_modulo p places.now }
-{
-    let number = p.number() as u32;
-    let mut residues = ArrayVec::new();
-    for x in places {
-        residues.push((*x % number) as u8);
-    }
-    residues
 }
 
 /// The same matrix, each column from a power of its own.

@@ -1,12 +1,11 @@
 use Rattle.std.proofs.Common.{◌≡◌, ℕ, suc, ◌+◌, ◌-◌, ◌*◌, ◌^◌, ◌<◌, List, [], ◌∷◌, ◌++◌, length, replicate, map, All, refl, ap, ap₂, sym, ◌∙◌, arith, subst}
 use Rattle.std.specs.List.{range_with_len, refill}
 use Rattle.std.proofs.lemmas.List.{length-replicate}
-use Rattle.std.proofs.lemmas.List.Elements.{All-weaker, All-cons, All-replicate}
 use Rattle.std.proofs.lemmas.List.FromFn.{map-range_with_len_more}
 use Rattle.alg_model.specs.Coefficients.{mod_ops}
 use Rattle.alg_model.specs.Polynomials.{poly_power}
 use Rattle.alg_model.specs.Values.{degree, remainder, times_x}
-use Rattle.ff_factor.specs.InnerSplitting.{ArePlacesOfPower, residues_modulo}
+use Rattle.ff_factor.specs.InnerSplitting.{ArePlacesOfPower}
 use Rattle.ff_factor.proofs.PowersOfVariable.{places_of_one, places_of_next}
 use Rattle.ff_factor.proofs.GrowingLists.{refill_whole}
 use Rattle.ff_factor.proofs.columns.power_columns.Goals as goal
@@ -22,15 +21,12 @@ loop-j-init c =
     let start : c.as_mut_slice.result.now ≡ 1 ∷ replicate d 0 = c.as_mut_slice.ensures.value ∙ one in
     let long : length (1 ∷ replicate d 0) ≡ degree f.coefficients = omega (arith, length-replicate {A = ℕ} d 0, c.requires.not_constant) in
     let same : refill (length xs) xs ws ≡ ws = refill_whole xs ws (c.multiply_by_power.ensures.places ∙ ap length c.as_mut_slice.ensures.value) in
-    let small : All (λ x. x < 2) c.as_mut_slice.result.now = subst (λ ys. All (λ x. x < 2) ys) (sym start)
-    (All-cons (λ x. x < 2) 1 (replicate d 0) (omega arith) (All-replicate (λ x. x < 2) d 0 (omega arith))) in
     let first : ArePlacesOfPower f 0 c.as_mut_slice.result.now = subst (ArePlacesOfPower f 0) (sym start)
     (places_of_one f c.prime-p.ensures.whole c.requires.monic c.requires.not_constant) in
     let sum : 0 + f.prime ≡ f.prime + 0 = omega arith in
     record {
       places = ap length same ∙ c.multiply_by_power.ensures.places ∙ ap length start ∙ long;
-      small = subst (λ ys. All (λ x. x < 2 ^ 19) ys) (sym same)
-          (All-weaker (λ x. x < 2 + 2 ^ 18) (λ x. x < 2 ^ 19) (λ x l. omega arith) ws (c.multiply_by_power.ensures.growth 2 small));
+      residues = subst (λ ys. All (λ x. x < f.prime) ys) (sym same) c.multiply_by_power.ensures.residues;
       last = subst (ArePlacesOfPower f (f.prime + 0)) (sym same)
           (subst (λ e. ArePlacesOfPower f e ws) sum (c.multiply_by_power.ensures.power 0 first));
       counted = ap length c.new-columns.ensures;
@@ -48,20 +44,16 @@ loop-j-preserved c =
     let value = c.as_mut_slice-in-loop-j.ensures.value in
     let power : ℕ → List ℕ = λ j. remainder (mod_ops f.prime) f.coefficients (poly_power (mod_ops f.prime) (0 ∷ 1 ∷ []) j) in
     let same : refill (length xs) xs ws ≡ ws = refill_whole xs ws (e.places ∙ ap length value) in
-    let product : residues_modulo f.prime ws ≡ times_x (mod_ops f.prime) f.coefficients (residues_modulo f.prime xs) =
-    subst (λ q. residues_modulo q ws ≡ times_x (mod_ops q) f.coefficients (residues_modulo q xs)) c.prime-p.ensures.value
-    (subst (λ ys. residues_modulo p ws ≡ times_x (mod_ops p) f.coefficients (residues_modulo p ys)) value
-    (subst (λ g. residues_modulo p ws ≡ times_x (mod_ops p) g (residues_modulo p c.as_mut_slice-in-loop-j.result.now))
-    c.coefficients-in-loop-j.ensures.value e.product)) in
+    let product : ws ≡ times_x (mod_ops f.prime) f.coefficients xs =
+    subst (λ q. ws ≡ times_x (mod_ops q) f.coefficients xs) c.prime-p.ensures.value
+    (subst (λ ys. ws ≡ times_x (mod_ops p) f.coefficients ys) value
+    (subst (λ g. ws ≡ times_x (mod_ops p) g c.as_mut_slice-in-loop-j.result.now) c.coefficients-in-loop-j.ensures.value e.product)) in
     let element : c.of_slice.result ≡ power (f.prime + k) =
-    c.of_slice.ensures ∙ c.as_slice-in-loop-j.ensures.value ∙ c.residues_of_places-power.ensures
-    ∙ ap₂ residues_modulo c.prime-p.ensures.value c.as_slice.ensures.value ∙ c.loop-j.invariant.last in
-    let grown = e.growth (2 ^ 19 + k * 2 ^ 12) (subst (λ ys. All (λ x. x < 2 ^ 19 + k * 2 ^ 12) ys) (sym value) c.loop-j.invariant.small) in
+    c.of_slice.ensures ∙ c.as_slice.ensures.value ∙ c.loop-j.invariant.last in
     let more : suc (f.prime + k) ≡ f.prime + (k + 1) = omega arith in
     record {
       places = ap length same ∙ e.places ∙ ap length value ∙ c.loop-j.invariant.places;
-      small = subst (λ ys. All (λ x. x < 2 ^ 19 + (k + 1) * 2 ^ 12) ys) (sym same)
-          (All-weaker (λ x. x < 2 ^ 19 + k * 2 ^ 12 + 2 ^ 12) (λ x. x < 2 ^ 19 + (k + 1) * 2 ^ 12) (λ x l. omega arith) ws grown);
+      residues = subst (λ ys. All (λ x. x < f.prime) ys) (sym same) (subst (λ q. All (λ x. x < q) ws) c.prime-p.ensures.value e.residues);
       last = subst (ArePlacesOfPower f (f.prime + (k + 1))) (sym same)
           (subst (λ m. ArePlacesOfPower f m ws) more
           (places_of_next f c.prime-p.ensures.whole c.requires.monic c.requires.not_constant (f.prime + k) xs ws c.loop-j.invariant.last product));
