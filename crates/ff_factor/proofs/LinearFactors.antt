@@ -1,16 +1,14 @@
 -- The least factor x + c of a polynomial over the residues modulo a characteristic.
-use Rattle.std.proofs.Common.{◌≡◌, ◌≢◌, ℕ, suc, ◌+◌, ◌-◌, ◌*◌, ◌%◌, ◌<◌, ◌≤◌, List, [], ◌∷◌, length, drop, get_or, slice_index, All, Less, nat_cmp, refl, ap, ap₂, sym, ◌∙◌, subst, arith, lit<, mod-eq_of_lt, ⊎_elim}
-use Rattle.std.proofs.lemmas.Bool.{cases_eq, cases_lt}
-use Rattle.std.proofs.lemmas.Nat.{mul-le}
+use Rattle.std.proofs.Common.{◌≡◌, ℕ, ◌+◌, ◌-◌, ◌*◌, ◌%◌, ◌<◌, ◌≤◌, List, [], ◌∷◌, length, drop, slice_index, Less, nat_cmp, refl, ap, sym, ◌∙◌, subst, arith, lit<, mod-eq_of_lt, ⊎_elim}
+use Rattle.std.proofs.lemmas.Bool.{cases_eq}
 use Rattle.std.proofs.Math.Nat.{mod_self}
-use Rattle.std.specs.Ordering.{ordering_then}
 use Rattle.std.proofs.lemmas.Cmp.{ranked}
-use Rattle.std.proofs.lemmas.List.{drop_more, get_or_past}
-use Rattle.std.proofs.lemmas.List.Elements.{All-nil, All-cons, All-head, All-get_or}
+use Rattle.std.proofs.lemmas.List.{drop_more}
+use Rattle.std.proofs.lemmas.List.Elements.{All-nil, All-cons, All-head}
 use native.Mathlib.Nat.{add-mod-mod, mul_comm, add_comm}
 use Rattle.alg_model.specs.Coefficients.{mod_ops, residues, IsCharacteristic}
-use Rattle.alg_model.specs.Polynomials.{evaluate, leading}
-use Rattle.alg_model.specs.Factors.{IsPolynomial, IsMonic, Divides, IsProperFactor, IsIrreducible, IsLeastFactor, order_by}
+use Rattle.alg_model.specs.Polynomials.{evaluate}
+use Rattle.alg_model.specs.Factors.{IsPolynomial, Divides, IsProperFactor, IsIrreducible, IsLeastFactor, order_by}
 use Rattle.alg_rings.proofs.PolynomialOrder.{order_by_not_longer}
 use Rattle.alg_rings.proofs.ResidueFields.{residues_field, residues_propositional, two_le_characteristic}
 use Rattle.alg_fields.proofs.OnCarriers.{root_iff_divides}

@@ -1,5 +1,5 @@
 -- The powers x^(k p) modulo f, and the columns of v^p - v, over the residues modulo a characteristic.
-use Rattle.std.proofs.Common.{◌≡◌, ⊎_elim, ℕ, suc, ◌+◌, ◌-◌, ◌*◌, ◌<◌, ◌≤◌, ◌==◌, cond, List, [], ◌∷◌, length, map, replicate, slice_index, All, ap, ap₂, sym, ◌∙◌, arith, subst, mod-eq_of_lt}
+use Rattle.std.proofs.Common.{◌≡◌, ⊎_elim, ℕ, suc, ◌+◌, ◌-◌, ◌*◌, ◌<◌, ◌≤◌, ◌==◌, cond, List, [], ◌∷◌, length, map, replicate, slice_index, All, ap, ap₂, sym, ◌∙◌, arith, subst}
 use Rattle.std.proofs.lemmas.Bool.{cases_lt, ne_eqb}
 use Rattle.std.proofs.lemmas.List.{get_or_past}
 use Rattle.alg_model.specs.Coefficients.{Ops, mod_ops, residues}
@@ -8,7 +8,7 @@ use Rattle.alg_model.specs.Factors.{IsMonic, IsDivision}
 use Rattle.alg_model.specs.Fields.{IsField}
 use Rattle.alg_model.specs.Values.{degree, times_x, remainder, values}
 use Rattle.alg_model.specs.Matrices.{Matrix, combination, matrix_apply, IsColumn}
-use Rattle.alg_rings.proofs.ResidueFields.{residues_field, residues_propositional, two_le_characteristic}
+use Rattle.alg_rings.proofs.ResidueFields.{residues_field, residues_propositional}
 use Rattle.alg_rings.proofs.CarrierPolynomials
 use Rattle.alg_fields.proofs.Remainders.{remainder_value, remainder_one}
 use Rattle.ff_poly.specs.Polynomial.{Polynomial, IsPoly}

@@ -1,10 +1,7 @@
 -- x * r modulo a monic f, by its places.
-use Rattle.std.proofs.Common.{◌≡◌, ℕ, zero, suc, ◌+◌, ◌-◌, ◌*◌, ◌%◌, ◌<◌, ◌≤◌, List, ◌∷◌, length, replicate, slice_index, slice_index_or, All, refl, ap, ap₂, sym, ◌∙◌, arith, length-take, get_or-take}
+use Rattle.std.proofs.Common.{◌≡◌, ℕ, ◌+◌, ◌-◌, ◌*◌, ◌%◌, ◌<◌, List, ◌∷◌, length, slice_index, slice_index_or, ap, sym, ◌∙◌, arith, length-take, get_or-take}
 use Rattle.std.proofs.Math.Nat.{add-mod-mod}
 use native.Mathlib.Nat.{add_comm}
-use Rattle.std.proofs.lemmas.List.{get_or-map, length-map}
-use Rattle.std.proofs.lemmas.List.Elements.{All-get_or, All-from_get_or}
-use Rattle.std.proofs.lemmas.Nat.{mul-mod_first}
 use Rattle.alg_model.specs.Coefficients.{Ops, mod_ops}
 use Rattle.alg_model.specs.Polynomials.{sum, scale}
 use Rattle.alg_model.specs.Values.{degree, times_x}

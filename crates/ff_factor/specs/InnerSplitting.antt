@@ -6,7 +6,7 @@
 --     IsPowerOfVariable f k c  c are coefficients of x^(k p) modulo f, no more than deg f
 --     ArePlacesOfPower f e xs  the numbers xs are the deg f coefficients of x^e modulo f
 --     Collects f old new       the irreducible factors of f were put into an ordered list
-use Rattle.std.specs.Prelude.{◌≡◌, ◌≢◌, ℕ, ◌+◌, ◌*◌, ◌%◌, ◌<◌, ◌≤◌, List, [], ◌∷◌, length, map, All}
+use Rattle.std.specs.Prelude.{◌≡◌, ◌≢◌, ℕ, ◌+◌, ◌*◌, ◌<◌, ◌≤◌, List, [], ◌∷◌, length, All}
 use Rattle.std.specs.List.Sorted.{IsSorted}
 use Rattle.std.specs.Ordering.{nat_cmp}
 use Rattle.alg_model.specs.Coefficients.{Carrier, residues, mod_ops}
@@ -16,10 +16,8 @@ use Rattle.alg_model.specs.Factors.{IsPolynomial, IsMonic, IsProperFactor, IsIrr
 use Rattle.alg_model.specs.Matrices.{Matrix, IsColumn, matrix_apply, zero_column}
 use Rattle.alg_divisors.specs.Factorization.{IsFactorization}
 use Rattle.ff_poly.specs.Polynomial.{Polynomial}
-use Rattle.ff_poly.specs.declared.TheConstants.{MAX_DEGREE}
 use Rattle.ff_factor.specs.Certificates.{Certifies}
 use Rattle.ff_factor.specs.FactorLists.{AreOver, coefficients_of}
-use Rattle.ff_factor.specs.declared.certificates.Cert.{Cert}
 use Rattle.ff_factor.specs.declared.splitting.Finding.{Finding}
 use Rattle.ff_factor.specs.declared.splitting.Finding.TheVariants.{Irreducible, Divisor}
 
