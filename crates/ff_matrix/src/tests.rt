@@ -138,6 +138,13 @@ fn left_inverses(rt: HostRuntime) {
     }
 }
 
+// Whether the form of m gives no column that m sends to these numbers.
+fn is_missed(rt: &impl Abort, m: &Matrix, numbers: &[u8]) -> bool {
+    let missed = column(rt, m.prime(), numbers);
+    assert!(rt; missed.numbers().len() == m.rows());
+    m.echelon().solve(&missed).is_none()
+}
+
 #[test]
 fn answers_of_one_form(rt: HostRuntime) {
     for case in &CASES {
@@ -152,9 +159,7 @@ fn answers_of_one_form(rt: HostRuntime) {
             .expect(&rt, "a combination of the columns");
         assert_eq!(rt; m.apply(&x).numbers(), case.reached);
         if !case.missed.is_empty() {
-            let missed = column(&rt, m.prime(), case.missed);
-            assert!(rt; missed.numbers().len() == m.rows());
-            assert!(rt; echelon.solve(&missed).is_none());
+            assert!(rt; is_missed(&rt, &m, case.missed));
         }
         assert!(rt; echelon.left_inverse().is_none() != case.kernel.is_empty());
     }
