@@ -7,9 +7,9 @@ use Rattle.alg_model.specs.Coefficients.{Ops, Carrier, times, power}
 use Rattle.alg_model.specs.Polynomials.{sum, scale, product, trim, poly_power, poly_difference, evaluate}
 use Rattle.alg_model.specs.Factors.{IsPolynomial, IsMonic}
 use Rattle.alg_model.specs.Fields.{IsField}
-use Rattle.alg_model.specs.Values.{degree, remainder}
+use Rattle.alg_model.specs.Values.{degree, remainder, values}
 use Rattle.alg_model.specs.Matrices.{combination}
-use Rattle.alg_rings.specs.Laws.{IsPropositional}
+use Rattle.alg_rings.specs.Laws.{RingLaws, IsPropositional}
 use Rattle.alg_rings.proofs.Lists
 use Rattle.alg_rings.proofs.Homomorphisms
 use Rattle.alg_rings.proofs.Homomorphisms.{Homomorphism}
@@ -20,6 +20,7 @@ use Rattle.alg_rings.proofs.Divisors.{Polynomial, polynomial_ops, same_polynomia
 use Rattle.alg_divisors.proofs.Euclidean
 use Rattle.alg_divisors.proofs.EuclideanPolynomials.{polynomials_euclidean}
 use Rattle.alg_rings.proofs.Powers
+use Rattle.alg_rings.proofs.Rings
 use Rattle.alg_model.specs.Coefficients.{IsPrime}
 use Rattle.alg_rings.proofs.Modulo
 use Rattle.alg_rings.proofs.Modulo.{Same}
@@ -28,12 +29,15 @@ use Rattle.alg_fields.proofs.Classes.{class_of}
 use Rattle.alg_fields.proofs.Constants
 use Rattle.alg_fields.proofs.Constants.{constant, alone}
 use Rattle.alg_fields.proofs.Remainders
-use Rattle.alg_fields.proofs.Remainders.{remainder_value, same_as_value, remainder_from_same}
+use Rattle.alg_fields.proofs.Remainders.{remainder_value, same_as_value, remainder_from_same, remainder_equal, remainder_of_value, same_from_remainder}
 use Rattle.alg_fields.proofs.Generator.{generator, value_at_generator}
 use Rattle.alg_rings.proofs.Divisors.{power_is}
 use Rattle.ff_factor.specs.Certificates.{berlekamp_column}
 use Rattle.ff_factor.proofs.Compositions
 use Rattle.ff_factor.proofs.Compositions.{gaps}
+
+shared_factor : {R : Type 0} {o : Ops R} (L : RingLaws o) (a y x v : R) → o.add (o.mul a y) (o.mul (o.mul y x) v) ≡ o.mul y (o.add a (o.mul x v))
+shared_factor {o = o} L a y x v = ap₂ o.add (L.mul_comm a y) (L.mul_assoc y x v) ∙ sym (L.mul_add y a (o.mul x v))
 
 -- the polynomial x
 abbrev pub variable : {A : Type 0} → Ops A → List A
@@ -110,6 +114,55 @@ module _ {A : Type 0} {c : Carrier A} (P : IsPropositional c) (F : IsField c) wh
           (ap (scale c.ops a.0) (sym (column_is j)) ∙ sym (remainder_of_multiple a (gap j)))
           (combination_is (j + 1) X ∙ ap (λ i. remainder c.ops f.0 (rest i).0) (add-one j))
           ∙ sym (Remainders.remainder_sum P F f not_constant monic (Q.mul (constant P F.ring a) (gap j)) (rest (suc j)))
+
+      -- ---- combinations of the powers x^j, x^(j + 1), ..
+      abbrev powers : ℕ → List (Element c) → Polynomial c
+      powers j [] = Q.zero
+      powers j (a ∷ X) = Q.add (Q.mul (constant P F.ring a) (power Q x j)) (powers (suc j) X)
+
+      powers_is : (j : ℕ) (X : List (Element c)) → powers j X ≡ Q.mul (power Q x j) (evaluate Q (map (constant P F.ring) X) x)
+      powers_is j [] = sym (Rings.mul_zero U.ring (power Q x j))
+      powers_is j (a ∷ X) =
+          ap (Q.add (Q.mul (constant P F.ring a) (power Q x j))) (powers_is (suc j) X)
+          ∙ shared_factor U.ring (constant P F.ring a) (power Q x j) x (evaluate Q (map (constant P F.ring) X) x)
+
+      power_combination_is : (j : ℕ) (X : List (Element c))
+          → combination c.ops (degree f.0) (map (λ k. remainder c.ops f.0 (poly_power c.ops (variable c.ops) k)) (range_with_len j (length (map (underlying c) X)))) (map (underlying c) X)
+          ≡ remainder c.ops f.0 (powers j X).0
+      power_combination_is j [] = refl
+      power_combination_is j (a ∷ X) =
+          ap₂ (sum c.ops)
+          (ap (scale c.ops a.0) (ap (remainder c.ops f.0) (sym (power_of_generator j))) ∙ sym (remainder_of_multiple a (power Q x j)))
+          (power_combination_is (j + 1) X ∙ ap (λ i. remainder c.ops f.0 (powers i X).0) (add-one j))
+          ∙ sym (Remainders.remainder_sum P F f not_constant monic (Q.mul (constant P F.ring a) (power Q x j)) (powers (suc j) X))
+
+      powers_combination : (j : ℕ) (xs : List A) (v : All c.Valid xs)
+          → combination c.ops (degree f.0) (map (λ k. remainder c.ops f.0 (poly_power c.ops (variable c.ops) k)) (range_with_len j (length xs))) xs
+          ≡ remainder c.ops f.0 (Q.mul (power Q x j) (class_of P F.ring xs v)).0
+      powers_combination j xs v =
+          on_valid c (λ xs. (v : All c.Valid xs)
+          → combination c.ops (degree f.0) (map (λ k. remainder c.ops f.0 (poly_power c.ops (variable c.ops) k)) (range_with_len j (length xs))) xs
+          ≡ remainder c.ops f.0 (Q.mul (power Q x j) (class_of P F.ring xs v)).0) at xs v v
+        where
+          at : (X : List (Element c)) (v : All c.Valid (map (underlying c) X))
+              → combination c.ops (degree f.0) (map (λ k. remainder c.ops f.0 (poly_power c.ops (variable c.ops) k)) (range_with_len j (length (map (underlying c) X)))) (map (underlying c) X)
+              ≡ remainder c.ops f.0 (Q.mul (power Q x j) (class_of P F.ring (map (underlying c) X) v)).0
+          at X v = power_combination_is j X
+              ∙ ap (λ g. remainder c.ops f.0 g.0) (powers_is j X ∙ ap (Q.mul (power Q x j)) (value_at_generator P F.ring X v))
+
+      -- **the powers x^j, x^(j + 1), .. by the places of x^e add up to x^(e + j) modulo f**
+      pub table_combination : (j e : ℕ) (xs : List A) (v : (values c f.0).Valid xs) → xs ≡ remainder c.ops f.0 (poly_power c.ops (variable c.ops) e)
+          → combination c.ops (degree f.0) (map (λ k. remainder c.ops f.0 (poly_power c.ops (variable c.ops) k)) (range_with_len j (length xs))) xs
+          ≡ remainder c.ops f.0 (poly_power c.ops (variable c.ops) (e + j))
+      table_combination j e xs v same =
+          powers_combination j xs v.0
+          ∙ remainder_equal P F f not_constant monic (Q.mul (power Q x j) (class_of P F.ring xs v.0)) (power Q x (e + j))
+          (Modulo.same_trans U.ring
+          (Modulo.same_product U.ring (Modulo.same_itself U.ring f (power Q x j))
+          (same_from_remainder P F f not_constant monic (class_of P F.ring xs v.0) (power Q x e)
+          (remainder_of_value P F f not_constant monic xs v ∙ same ∙ ap (remainder c.ops f.0) (sym (power_of_generator e)))))
+          (Modulo.same_from_equal U.ring (U.ring.mul_comm (power Q x j) (power Q x e) ∙ sym (Powers.power_add U.ring x e j))))
+          ∙ ap (remainder c.ops f.0) (power_of_generator (e + j))
 
       module _ (prime : IsPrime p) (characteristic : times (polynomial_ops P F.ring) p (polynomial_ops P F.ring).one ≡ (polynomial_ops P F.ring).zero)
           (fixed : (a : Element c) → power (element_ops F.ring) a p ≡ a) where

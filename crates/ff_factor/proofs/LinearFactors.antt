@@ -1,16 +1,14 @@
 -- The least factor x + c of a polynomial over the residues modulo a characteristic.
-use Rattle.std.proofs.Common.{◌≡◌, ◌≢◌, ℕ, suc, ◌+◌, ◌-◌, ◌*◌, ◌%◌, ◌<◌, ◌≤◌, List, [], ◌∷◌, length, drop, get_or, slice_index, All, Less, nat_cmp, refl, ap, ap₂, sym, ◌∙◌, subst, arith, lit<, mod-eq_of_lt, ⊎_elim}
-use Rattle.std.proofs.lemmas.Bool.{cases_eq, cases_lt}
-use Rattle.std.proofs.lemmas.Nat.{mul-le}
+use Rattle.std.proofs.Common.{◌≡◌, ℕ, ◌+◌, ◌-◌, ◌*◌, ◌%◌, ◌<◌, ◌≤◌, List, [], ◌∷◌, length, drop, slice_index, Less, nat_cmp, refl, ap, sym, ◌∙◌, subst, arith, lit<, mod-eq_of_lt, ⊎_elim}
+use Rattle.std.proofs.lemmas.Bool.{cases_eq}
 use Rattle.std.proofs.Math.Nat.{mod_self}
-use Rattle.std.specs.Ordering.{ordering_then}
 use Rattle.std.proofs.lemmas.Cmp.{ranked}
-use Rattle.std.proofs.lemmas.List.{drop_more, get_or_past}
-use Rattle.std.proofs.lemmas.List.Elements.{All-nil, All-cons, All-head, All-get_or}
+use Rattle.std.proofs.lemmas.List.{drop_more}
+use Rattle.std.proofs.lemmas.List.Elements.{All-nil, All-cons, All-head}
 use native.Mathlib.Nat.{add-mod-mod, mul_comm, add_comm}
 use Rattle.alg_model.specs.Coefficients.{mod_ops, residues, IsCharacteristic}
-use Rattle.alg_model.specs.Polynomials.{evaluate, leading}
-use Rattle.alg_model.specs.Factors.{IsPolynomial, IsMonic, Divides, IsProperFactor, IsIrreducible, IsLeastFactor, order_by}
+use Rattle.alg_model.specs.Polynomials.{evaluate}
+use Rattle.alg_model.specs.Factors.{IsPolynomial, Divides, IsProperFactor, IsIrreducible, IsLeastFactor, order_by}
 use Rattle.alg_rings.proofs.PolynomialOrder.{order_by_not_longer}
 use Rattle.alg_rings.proofs.ResidueFields.{residues_field, residues_propositional, two_le_characteristic}
 use Rattle.alg_fields.proofs.OnCarriers.{root_iff_divides}
@@ -97,14 +95,3 @@ horner_step p n a f v w l e step =
     ∙ sym (add-mod-mod (slice_index f n) (a * v) p)
     ∙ ap (λ k. (slice_index f n + (a * k) % p) % p) e
     ∙ ap (λ xs. evaluate (mod_ops p) xs a) (sym (drop_more f n 0 l))
-
--- a number of a list of residues, and what stands past its end
-pub below_at : (p : ℕ) (xs : List ℕ) (k : ℕ) → 0 < p → All (λ x. x < p) xs → slice_index xs k < p
-below_at p xs k positive v = ⊎_elim
-    (λ l. All-get_or (λ x. x < p) xs k 0 l v)
-    (λ l. let e : slice_index xs k ≡ 0 = get_or_past xs k 0 l in omega arith)
-    (cases_lt k (length xs))
-
--- a product of two residues and a third one
-pub small_step : (p v x a : ℕ) → p < 64 → v < p → x < p → a < p → v * x + a < 4096
-small_step p v x a small lv lx la = let h : v * x ≤ 63 * 63 = mul-le v x 63 63 (omega arith) (omega arith) in omega arith

@@ -4,10 +4,9 @@
 --     IsLeastNegativeRoot p f c     c is the least residue with f(-c) = 0 modulo p
 --     IsCofactor c f g q       f = q * g, both smaller than f
 --     IsPowerOfVariable f k c  c are coefficients of x^(k p) modulo f, no more than deg f
---     residues_modulo p xs     the numbers xs modulo p
---     ArePlacesOfPower f e xs  the numbers xs are modulo p the deg f coefficients of x^e modulo f
+--     ArePlacesOfPower f e xs  the numbers xs are the deg f coefficients of x^e modulo f
 --     Collects f old new       the irreducible factors of f were put into an ordered list
-use Rattle.std.specs.Prelude.{◌≡◌, ◌≢◌, ℕ, ◌+◌, ◌*◌, ◌%◌, ◌<◌, ◌≤◌, List, [], ◌∷◌, length, map, All}
+use Rattle.std.specs.Prelude.{◌≡◌, ◌≢◌, ℕ, ◌+◌, ◌*◌, ◌<◌, ◌≤◌, List, [], ◌∷◌, length, All}
 use Rattle.std.specs.List.Sorted.{IsSorted}
 use Rattle.std.specs.Ordering.{nat_cmp}
 use Rattle.alg_model.specs.Coefficients.{Carrier, residues, mod_ops}
@@ -17,10 +16,8 @@ use Rattle.alg_model.specs.Factors.{IsPolynomial, IsMonic, IsProperFactor, IsIrr
 use Rattle.alg_model.specs.Matrices.{Matrix, IsColumn, matrix_apply, zero_column}
 use Rattle.alg_divisors.specs.Factorization.{IsFactorization}
 use Rattle.ff_poly.specs.Polynomial.{Polynomial}
-use Rattle.ff_poly.specs.declared.TheConstants.{MAX_DEGREE}
 use Rattle.ff_factor.specs.Certificates.{Certifies}
 use Rattle.ff_factor.specs.FactorLists.{AreOver, coefficients_of}
-use Rattle.ff_factor.specs.declared.certificates.Cert.{Cert}
 use Rattle.ff_factor.specs.declared.splitting.Finding.{Finding}
 use Rattle.ff_factor.specs.declared.splitting.Finding.TheVariants.{Irreducible, Divisor}
 
@@ -51,12 +48,9 @@ pub record IsPowerOfVariable (f : Polynomial) (k : ℕ) (c : List ℕ) : Type 0 
   pub power : let o = mod_ops f.prime in
       remainder o f.coefficients c ≡ remainder o f.coefficients (poly_power o (0 ∷ 1 ∷ []) (k * f.prime))
 
-abbrev pub residues_modulo : ℕ → List ℕ → List ℕ
-residues_modulo p xs = map (λ x. x % p) xs
-
 abbrev pub ArePlacesOfPower : Polynomial → ℕ → List ℕ → Type 0
 ArePlacesOfPower f e xs = let o = mod_ops f.prime in
-    residues_modulo f.prime xs ≡ remainder o f.coefficients (poly_power o (0 ∷ 1 ∷ []) e)
+    xs ≡ remainder o f.coefficients (poly_power o (0 ∷ 1 ∷ []) e)
 
 pub record Collects (f : Polynomial) (old new : List Polynomial) : Type 0 where
   pub primes : AreOver f.prime new

@@ -1,18 +1,22 @@
 //! The matrix of `v -> v^p - v` on the polynomials modulo `f`.
-ghost use Rattle.std.specs.Prelude.{◌≡◌, ℕ, ◌+◌, ◌-◌, ◌*◌, ◌^◌, ◌<◌, ◌≤◌, ◌==◌, if◌then◌else◌, ◌∷◌, length, replicate, map, All, slice_index};
+ghost use Rattle.std.specs.Prelude.{◌≡◌, ℕ, ◌+◌, ◌-◌, ◌*◌, ◌^◌, ◌<◌, ◌≤◌, ◌==◌, if◌then◌else◌, [], ◌∷◌, length, replicate, map, All, slice_index};
 ghost use Rattle.std.specs.List.{range_with_len};
 ghost use Rattle.alg_model.specs.Coefficients.{residues, mod_ops};
 ghost use Rattle.alg_model.specs.Factors.{IsMonic};
-ghost use Rattle.alg_model.specs.Values.{degree, times_x};
+ghost use Rattle.alg_model.specs.Polynomials.{poly_power};
+ghost use Rattle.alg_model.specs.Values.{degree, times_x, remainder};
 ghost use Rattle.alg_model.specs.Matrices.{IsColumn};
 ghost use Rattle.ff_poly.specs.Polynomial.{IsPoly};
 ghost use Rattle.ff_factor.specs.Certificates.{berlekamp_column, berlekamp_matrix};
-ghost use Rattle.ff_factor.specs.PrivateSplitting.{IsPowerOfVariable, ArePlacesOfPower, residues_modulo};
+ghost use Rattle.ff_factor.specs.PrivateSplitting.{IsPowerOfVariable, ArePlacesOfPower};
 
 use crate::polynomials::variable;
 use arrayvec::ArrayVec;
 use ff_matrix::{Column, Matrix};
 use ff_poly::{MAX_DEGREE, Poly, Prime};
+
+// Up to this prime the steps from one power of x^p to the next are fewer than what the matrix takes.
+const FEW_STEPS: u8 = 13;
 
 /// The columns 1 to `n - 1` of the matrix, for `f` of degree `n`; each power of `x^p` is made from the one before.
 pub(crate) fn matrix_in_turn(f: &Poly) -> Matrix
@@ -26,27 +30,93 @@ pub(crate) fn matrix_in_turn(f: &Poly) -> Matrix
     Matrix::of_columns(f.prime(), f.coefficients().len() - 1, columns.as_slice())
 }
 
-// The columns, from the places of 1, x^p, x^(2 p), .. in turn.
+// The columns, in the way that is faster for the prime.
 fn columns_in_turn(f: &Poly) -> ArrayVec<Column, MAX_DEGREE>
     requires monic { IsMonic (residues f.now.prime) f.now.coefficients }
     requires not_constant { 1 < length f.now.coefficients }
     requires degree { length f.now.coefficients ≤ MAX_DEGREE + 1 }
     ensures columns { result.items ≡ (berlekamp_matrix (mod_ops f.now.prime) f.now.prime f.now.coefficients).columns }
 {
-    let p = f.prime();
+    if f.prime().number() <= FEW_STEPS {
+        columns_by_steps(f)
+    } else {
+        columns_by_table(f)
+    }
+}
+
+// The same by p multiplications with x for each column.
+fn columns_by_steps(f: &Poly) -> ArrayVec<Column, MAX_DEGREE>
+    requires monic { IsMonic (residues f.now.prime) f.now.coefficients }
+    requires not_constant { 1 < length f.now.coefficients }
+    requires degree { length f.now.coefficients ≤ MAX_DEGREE + 1 }
+    ensures columns { result.items ≡ (berlekamp_matrix (mod_ops f.now.prime) f.now.prime f.now.coefficients).columns }
+{
+    let _prime = f.prime();
     let degree = f.coefficients().len() - 1;
     let mut places = places_of_one(degree);
     let mut columns = ArrayVec::new();
     for k in 1..degree {
         multiply_by_power(places.as_mut_slice(), f);
-        let power = residues_of_places(p, places.as_slice());
-        columns.push(gap_column(f, power.as_slice(), k));
+        columns.push(gap_column(f, places.as_slice(), k));
+    }
+    columns
+}
+
+// The columns, from 1, x^p, x^(2 p), .. in turn, by the matrix of the multiplication with x^p.
+fn columns_by_table(f: &Poly) -> ArrayVec<Column, MAX_DEGREE>
+    requires monic { IsMonic (residues f.now.prime) f.now.coefficients }
+    requires not_constant { 1 < length f.now.coefficients }
+    requires degree { length f.now.coefficients ≤ MAX_DEGREE + 1 }
+    ensures columns { result.items ≡ (berlekamp_matrix (mod_ops f.now.prime) f.now.prime f.now.coefficients).columns }
+{
+    let degree = f.coefficients().len() - 1;
+    let table = power_table(f);
+    let _prime = f.prime();
+    let mut power = Column::of_slice(&places_of_one(degree));
+    let mut columns = ArrayVec::new();
+    for k in 1..degree {
+        power = table.apply(&power);
+        columns.push(gap_column(f, power.numbers(), k));
+    }
+    columns
+}
+
+// The matrix of v -> x^p * v modulo f.
+fn power_table(f: &Poly) -> Matrix
+    requires monic { IsMonic (residues f.now.prime) f.now.coefficients }
+    requires not_constant { 1 < length f.now.coefficients }
+    requires degree { length f.now.coefficients ≤ MAX_DEGREE + 1 }
+    ensures prime { result.prime ≡ f.now.prime }
+    ensures rows { result.matrix.rows ≡ degree f.now.coefficients }
+    ensures columns { let o = mod_ops f.now.prime in result.matrix.columns
+        ≡ map (λ j. remainder o f.now.coefficients (poly_power o (0 ∷ 1 ∷ []) j)) (range_with_len f.now.prime (degree f.now.coefficients)) }
+{
+    let columns = power_columns(f);
+    Matrix::of_columns(f.prime(), f.coefficients().len() - 1, columns.as_slice())
+}
+
+// Its columns, the places of x^p, x^(p + 1), ..
+fn power_columns(f: &Poly) -> ArrayVec<Column, MAX_DEGREE>
+    requires monic { IsMonic (residues f.now.prime) f.now.coefficients }
+    requires not_constant { 1 < length f.now.coefficients }
+    requires degree { length f.now.coefficients ≤ MAX_DEGREE + 1 }
+    ensures columns { let o = mod_ops f.now.prime in result.items
+        ≡ map (λ j. remainder o f.now.coefficients (poly_power o (0 ∷ 1 ∷ []) j)) (range_with_len f.now.prime (degree f.now.coefficients)) }
+{
+    let p = f.prime();
+    let degree = f.coefficients().len() - 1;
+    let mut places = places_of_one(degree);
+    multiply_by_power(places.as_mut_slice(), f);
+    let mut columns = ArrayVec::new();
+    for _j in 0..degree {
+        columns.push(Column::of_slice(places.as_slice()));
+        multiply_by_variable(places.as_mut_slice(), f.coefficients(), p);
     }
     columns
 }
 
 // The n places of 1.
-fn places_of_one(n: usize) -> ArrayVec<u32, MAX_DEGREE>
+fn places_of_one(n: usize) -> ArrayVec<u8, MAX_DEGREE>
     requires places { 0 < n }
     requires room { n ≤ MAX_DEGREE }
     ensures { result.items ≡ 1 ∷ replicate (n - 1) 0 }
@@ -60,13 +130,13 @@ fn places_of_one(n: usize) -> ArrayVec<u32, MAX_DEGREE>
 }
 
 // Multiplies by x^p modulo f.
-fn multiply_by_power(places: &mut [u32], f: &Poly)
+fn multiply_by_power(places: &mut [u8], f: &Poly)
     requires monic { IsMonic (residues f.now.prime) f.now.coefficients }
     requires not_constant { 1 < length f.now.coefficients }
     requires places { length places.old ≡ degree f.now.coefficients }
-    requires small { All (λ x. x < 2 ^ 30) places.old }
+    requires residues { All (λ x. x < f.now.prime) places.old }
     ensures places { length places.new ≡ length places.old }
-    ensures growth { (b : ℕ) → All (λ x. x < b) places.old → All (λ x. x < b + 2 ^ 18) places.new }
+    ensures residues { All (λ x. x < f.now.prime) places.new }
     ensures power { (e : ℕ) → ArePlacesOfPower f.now e places.old → ArePlacesOfPower f.now (e + f.now.prime) places.new }
 {
     let p = f.prime();
@@ -75,37 +145,24 @@ fn multiply_by_power(places: &mut [u32], f: &Poly)
     }
 }
 
-// Multiplies by x modulo f: shifts up by one, and adds the multiple of f that takes the top place off, modulo p.
-fn multiply_by_variable(places: &mut [u32], f: &[u8], p: Prime)
+// Multiplies by x modulo f: shifts up by one, and adds the multiple of f that takes the top place off.
+fn multiply_by_variable(places: &mut [u8], f: &[u8], p: Prime)
     requires places { 0 < length places.old }
     requires sizes { length f.now ≡ length places.old + 1 }
-    requires residues { All (λ x. x < p) f.now }
-    requires small { All (λ x. x < 2 ^ 31) places.old }
+    requires divisor { All (λ x. x < p) f.now }
+    requires residues { All (λ x. x < p) places.old }
     ensures places { length places.new ≡ length places.old }
-    ensures growth { (b : ℕ) → All (λ x. x < b) places.old → All (λ x. x < b + 2 ^ 12) places.new }
-    ensures product { residues_modulo p places.new ≡ times_x (mod_ops p) f.now (residues_modulo p places.old) }
+    ensures residues { All (λ x. x < p) places.new }
+    ensures product { places.new ≡ times_x (mod_ops p) f.now places.old }
 {
-    let number = p.number() as u32;
-    let multiple = number - places[places.len() - 1] % number;
+    let _number = p.number();
+    let multiple = p.neg(places[places.len() - 1]) as u16;
     let mut below = 0;
     for i in 0..places.len() {
-        let place = places[i];
-        places[i] = below + multiple * f[i] as u32;
+        let place = places[i] as u16;
+        places[i] = p.reduced(multiple * f[i] as u16 + below) as u8;
         below = place;
     }
-}
-
-// The places modulo p.
-fn residues_of_places(p: Prime, places: &[u32]) -> ArrayVec<u8, MAX_DEGREE>
-    requires { length places.now ≤ MAX_DEGREE }
-    ensures { result.items ≡ residues_modulo p places.now }
-{
-    let number = p.number() as u32;
-    let mut residues = ArrayVec::new();
-    for x in places {
-        residues.push((*x % number) as u8);
-    }
-    residues
 }
 
 /// The same matrix, each column from a power of its own.

@@ -543,15 +543,24 @@ fn refusals(rt: HostRuntime) {
     assert_eq!(rt; (p.inv(1), p.inv(2), p.inv(12), p.inv(30)), (1, 16, 13, 30));
 }
 
+// The remainder of x by the characteristic n is that of a division.
+fn is_reduced(rt: &impl Abort, n: u32, x: u16) -> bool {
+    let p = Prime::of(n).expect(rt, "a characteristic");
+    assert!(rt; x < 32_768 && n > 0);
+    p.reduced(x) as u32 == x as u32 % n
+}
+
 #[test]
-fn residues(rt: HostRuntime) {
-    for n in CHARACTERISTICS {
-        let p = Prime::of(n).expect(&rt, "a characteristic");
-        assert_eq!(rt; p.number() as u32, n);
-        for x in [0, 1, n as u16, 3_599, 3_600, 16_383, 30_719, 32_766, 32_767] {
-            assert_eq!(rt; p.reduced(x) as u32, x as u32 % n);
+fn remainders(rt: HostRuntime) {
+    for n in &CHARACTERISTICS {
+        for x in &[0, 1, 60, 61, 3_599, 3_600, 16_383, 30_719, 32_766, 32_767] {
+            assert!(rt; is_reduced(&rt, *n, *x), "at {n} {x}");
         }
     }
+}
+
+#[test]
+fn residues(rt: HostRuntime) {
     let p = Prime::of(61).expect(&rt, "a characteristic");
     assert_eq!(rt;
         (p.add(60, 59), p.sub(1, 60), p.mul(60, 59), p.neg(1)),

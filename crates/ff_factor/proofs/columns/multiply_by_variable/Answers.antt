@@ -1,38 +1,43 @@
-use Rattle.std.proofs.Common.{◌≡◌, ℕ, ◌+◌, ◌-◌, ◌*◌, ◌%◌, ◌^◌, ◌<◌, ◌≤◌, ◌∷◌, length, slice_index, ap, ◌∙◌, arith}
-use Rattle.std.proofs.lemmas.List.Elements.{All-weaker, All-get_or}
-use Rattle.ff_factor.proofs.TimesVariable.{places_grow, product_by_places, shifted_small, multiple_small}
+use Rattle.std.proofs.Common.{◌+◌, ◌*◌, ◌%◌, ◌<◌, ◌≤◌, ◌∷◌, length, set, slice_index, add-one, ap, sym, ◌∙◌, ⊎_elim, arith}
+use Rattle.std.proofs.lemmas.Bool.{cases_eq}
+use Rattle.std.proofs.lemmas.List.{length-set, get_or-set_same, get_or-set_other}
+use Rattle.std.proofs.lemmas.List.Elements.{All-set}
+use Rattle.ff_poly.proofs.ListPlaces.{below_at}
+use Rattle.ff_factor.proofs.TimesVariable.{product_by_places}
 use Rattle.ff_factor.proofs.columns.multiply_by_variable.Goals as goal
-use Rattle.ff_factor.proofs.columns.multiply_by_variable.Goals.{After-loop-i}
 
-pub overflow_add-places : goal.overflow_add-places
-overflow_add-places c =
-    let xs = c.args.places.now in
-    let n = c.number-number.result in
+pub loop-i-preserved : goal.loop-i-preserved
+loop-i-preserved c =
+    let p = c.args.p in
     let i = c.loop-i.i in
-    let small : n < 64 = c.number-number.ensures.small.1 in
-    let same : n ≡ c.args.p = c.number-number.ensures.value in
-    let within : i < length xs = c.loop-i-test.true in
-    let below : c.loop-i.below ≤ 2 ^ 31 = omega (arith, c.loop-i.invariant.below, shifted_small (2 ^ 31) xs c.requires.small i within) in
-    let digit : slice_index c.args.f.now i < c.args.p = All-get_or (λ x. x < c.args.p) c.args.f.now i 0 (omega (arith, c.requires.sizes)) c.requires.residues in
-    let product = multiple_small (n - slice_index xs (length xs - 1) % n) (slice_index c.args.f.now i) (omega arith) (omega arith) in
-    omega (arith, product)
-
-each : (c : After-loop-i) (k : ℕ) → k < length c.args.places.now
-    → slice_index c.loop-i.places k ≡ slice_index (0 ∷ c.args.places.now) k
-    + (c.args.p - slice_index c.args.places.now (length c.args.places.now - 1) % c.args.p) * slice_index c.args.f.now k
-each c k l =
-    c.loop-i.invariant.done k (omega (arith, c.loop-i-test.false))
-    ∙ ap (λ n. slice_index (0 ∷ c.args.places.now) k + (n - slice_index c.args.places.now (length c.args.places.now - 1) % n) * slice_index c.args.f.now k)
-    c.number-number.ensures.value
-
-pub returns-clause-growth : goal.returns-clause-growth
-returns-clause-growth c b h =
+    let f = c.args.f.now in
     let xs = c.args.places.now in
-    let small : c.args.p < 64 = omega (arith, c.number-number.ensures.small.1, c.number-number.ensures.value) in
-    places_grow (c.args.p - slice_index xs (length xs - 1) % c.args.p) b c.args.f.now xs c.loop-i.places (omega arith)
-    (All-weaker (λ x. x < c.args.p) (λ x. x < 64) (λ x l. omega arith) c.args.f.now c.requires.residues)
-    (omega (arith, c.requires.sizes)) c.loop-i.invariant.len (each c) h
+    let ys = c.loop-i.places in
+    let v = c.reduced.result in
+    let m = c.neg-multiple.result in
+    let h = c.loop-i.invariant in
+    let room : i < length ys = omega (arith, c.loop-i.auto.places, c.loop-i-test.true) in
+    let above : 0 < p = omega (arith, c.number-number.ensures.small, c.number-number.ensures.value) in
+    let same : i ≤ i = omega arith in
+    record {
+      len = length-set ys i v ∙ h.len;
+      below = h.rest i same ∙ sym (ap (slice_index (0 ∷ xs)) (add-one i));
+      small = below_at p ys i above h.residues;
+      residues = All-set (λ x. x < p) ys i v c.reduced.ensures.residue h.residues;
+      done = λ k l. ⊎_elim
+          (λ e. ap (slice_index (set ys i v)) e ∙ get_or-set_same ys i v 0 room ∙ c.reduced.ensures.value
+          ∙ ap (λ b. (m * slice_index f i + b) % p) h.below
+          ∙ ap (λ j. (m * slice_index f j + slice_index (0 ∷ xs) j) % p) (sym e))
+          (λ d. get_or-set_other ys i k v 0 d ∙ h.done k (omega arith))
+          (cases_eq k i);
+      rest = λ k l. get_or-set_other ys i k v 0 (omega arith) ∙ h.rest k (omega arith);
+    }
 
 pub returns-clause-product : goal.returns-clause-product
 returns-clause-product c =
-    product_by_places c.args.p c.args.f.now c.args.places.now c.loop-i.places c.requires.places c.requires.sizes c.loop-i.invariant.len (each c)
+    let p = c.args.p in
+    let f = c.args.f.now in
+    let xs = c.args.places.now in
+    product_by_places p f xs c.loop-i.places c.requires.sizes c.loop-i.invariant.len
+    (λ k l. c.loop-i.invariant.done k (omega (arith, c.loop-i-test.false))
+    ∙ ap (λ m. (m * slice_index f k + slice_index (0 ∷ xs) k) % p) c.neg-multiple.ensures.negative)

@@ -1,4 +1,4 @@
-use Rattle.std.proofs.Common.{◌≡◌, ◌<◌, length, arith, ◌∷◌, [], sym, ap, ◌∙◌, subst}
+use Rattle.std.proofs.Common.{◌<◌, length, arith, sym, ap, subst}
 use Rattle.std.specs.Ordering.{nat_cmp}
 use Rattle.alg_model.specs.Coefficients.{residues}
 use Rattle.alg_model.specs.Factors.{IsIrreducible, IsLeastFactor}

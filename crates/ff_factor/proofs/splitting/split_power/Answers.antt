@@ -1,4 +1,4 @@
-use Rattle.std.proofs.Common.{◌≡◌, ◌≢◌, ◌-◌, ◌<◌, [], ◌∷◌, length, arith, ap, ap₂, sym, ◌∙◌, subst}
+use Rattle.std.proofs.Common.{◌≡◌, ◌≢◌, ◌<◌, [], ◌∷◌, length, arith, ap, sym, ◌∙◌, subst}
 use Rattle.alg_model.specs.Coefficients.{mod_ops, IsCharacteristic}
 use Rattle.alg_model.specs.Polynomials.{poly_sum, poly_product}
 use Rattle.alg_fields.proofs.Derivatives.{length_derivative}
