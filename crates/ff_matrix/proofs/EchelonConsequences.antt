@@ -14,7 +14,7 @@ use Rattle.alg_linear.specs.PrivateGrids.{AreFree}
 use Rattle.alg_linear.proofs.Solutions.{rising_few}
 use Rattle.alg_linear.proofs.Echelons.{form_rows, form_columns}
 use Rattle.alg_linear.proofs.Kernels
-use Rattle.ff_poly.proofs.Characteristics.{characteristic_small}
+use Rattle.ff_residues.proofs.Characteristics.{characteristic_small}
 use Rattle.ff_matrix.specs.declared.echelon.Echelon.{Echelon}
 use Rattle.ff_matrix.specs.Echelons.{IsEchelonOf}
 use Rattle.ff_matrix.specs.ModularMatrix.{ModularMatrix}

@@ -19,7 +19,7 @@ use Rattle.alg_linear.proofs.CarrierMatrices.{delta_value}
 use Rattle.alg_linear.specs.PrivateElimination.{IsEliminated, row_entries}
 use Rattle.alg_linear.proofs.MatrixEntries.{entries}
 use Rattle.alg_linear.proofs.Echelons.{reduction_lists}
-use Rattle.ff_poly.proofs.Characteristics.{characteristic_small}
+use Rattle.ff_residues.proofs.Characteristics.{characteristic_small}
 use Rattle.ff_matrix.specs.ModularMatrix.{IsModularMatrix}
 use Rattle.ff_matrix.specs.PrivateRows.{AreRows, IsAugmented, Eliminates}
 use Rattle.alg_rings.proofs.ResidueFields.{residues_propositional}

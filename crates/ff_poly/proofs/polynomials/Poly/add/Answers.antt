@@ -7,7 +7,7 @@ use Rattle.alg_rings.proofs.Residues.{residues_ring}
 use Rattle.alg_rings.proofs.ResidueFields.{residues_propositional}
 use Rattle.alg_rings.proofs.CarrierPolynomials.{sum_at}
 use Rattle.ff_poly.proofs.ListPlaces.{cut_at, residue_sum_past}
-use Rattle.ff_poly.proofs.Characteristics.{characteristic_small}
+use Rattle.ff_residues.proofs.Characteristics.{characteristic_small}
 use Rattle.ff_poly.proofs.polynomials.Poly.add.Goals as goal
 
 pub add_multiple-requires-clause-places : goal.add_multiple-requires-clause-places

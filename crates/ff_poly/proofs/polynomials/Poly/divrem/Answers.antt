@@ -7,7 +7,7 @@ use Rattle.alg_rings.proofs.Trims.{last_not_zero}
 use Rattle.alg_rings.proofs.Residues.{zero_test}
 use Rattle.alg_rings.proofs.ResidueFields.{residues_propositional, residues_field}
 use Rattle.ff_poly.proofs.Euclid.{division_sizes}
-use Rattle.ff_poly.proofs.Characteristics.{characteristic_small}
+use Rattle.ff_residues.proofs.Characteristics.{characteristic_small}
 use Rattle.ff_poly.proofs.Quotients.{division_of_places}
 use Rattle.ff_poly.proofs.polynomials.Poly.divrem.Goals as goal
 

@@ -10,7 +10,7 @@ use Rattle.alg_rings.proofs.ResidueFields.{residues_propositional}
 use Rattle.alg_rings.proofs.Validity.{negatives_valid, place_valid}
 use Rattle.alg_rings.proofs.CarrierPolynomials.{sum_at, negatives_at}
 use Rattle.ff_poly.proofs.ListPlaces.{cut_at, residue_sum_past, taken_from}
-use Rattle.ff_poly.proofs.Characteristics.{characteristic_small}
+use Rattle.ff_residues.proofs.Characteristics.{characteristic_small}
 use Rattle.ff_poly.proofs.polynomials.Poly.sub.Goals as goal
 
 pub add_multiple-requires-clause-places : goal.add_multiple-requires-clause-places

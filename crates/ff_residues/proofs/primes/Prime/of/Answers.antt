@@ -1,7 +1,7 @@
 use Rattle.std.proofs.Common.{◌≡◌, ap, arith}
 use Rattle.alg_model.specs.Coefficients.{IsCharacteristic}
-use Rattle.ff_poly.proofs.Characteristics.{characteristic_from_any}
-use Rattle.ff_poly.proofs.primes.Prime.of.Goals as goal
+use Rattle.ff_residues.proofs.Characteristics.{characteristic_from_any}
+use Rattle.ff_residues.proofs.primes.Prime.of.Goals as goal
 
 pub kept-requires : goal.kept-requires
 kept-requires c = characteristic_from_any c.args.n c.if-contains.ensures.cases

@@ -1,7 +1,7 @@
 use Rattle.std.proofs.Common.{◌≡◌, ◌%◌, ◌<◌, ap, ◌∙◌, subst, sym}
 use Rattle.std.proofs.lemmas.Nat.{mod_below}
-use Rattle.ff_poly.proofs.Reciprocals.{reduced_by, above_zero}
-use Rattle.ff_poly.proofs.primes.Prime.reduced.Goals as goal
+use Rattle.ff_residues.proofs.Reciprocals.{reduced_by, above_zero}
+use Rattle.ff_residues.proofs.primes.Prime.reduced.Goals as goal
 
 pub overflow_sub-result : goal.overflow_sub-result
 overflow_sub-result c =

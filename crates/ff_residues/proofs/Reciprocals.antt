@@ -4,7 +4,7 @@ use Rattle.std.proofs.Math.Nat.{div-add-mod, div-div-eq-div-mul, div-eq_of_lt-le
 use Rattle.std.proofs.lemmas.Nat.{mod_below}
 use Rattle.alg_model.specs.Coefficients.{IsCharacteristic}
 use Rattle.alg_rings.proofs.Primes.{each_characteristic}
-use Rattle.ff_poly.specs.PrivatePrimes.{IsKept, shift_of, reciprocal_of}
+use Rattle.ff_residues.specs.PrivatePrimes.{IsKept, shift_of, reciprocal_of}
 
 -- what the table says of each characteristic
 pub shift_bounds : (p : ℕ) → IsCharacteristic p → (2 ^ shift_of p < p) × (p ≤ 2 * 2 ^ shift_of p)

@@ -1,7 +1,7 @@
 //! The characteristics, and arithmetic modulo one of them.
-ghost use Rattle.std.specs.Prelude.{◌≡◌, ◌≢◌, ◌<◌, ◌≤◌, ◌%◌, ◌^◌, SomeIff};
+ghost use Rattle.std.specs.Prelude.{◌≡◌, ◌≢◌, ◌+◌, ◌-◌, ◌*◌, ◌<◌, ◌≤◌, ◌%◌, ◌^◌, SomeIff};
 ghost use Rattle.alg_model.specs.Coefficients.{primes, IsCharacteristic, mod_ops};
-ghost use Rattle.ff_poly.specs.PrivatePrimes.{shift_of};
+ghost use Rattle.ff_residues.specs.PrivatePrimes.{shift_of};
 
 use crate::PRIMES;
 use std::marker::Model;
@@ -31,7 +31,7 @@ pub struct Prime {
 
 impl Model for Prime {
     ghost use Rattle.std.specs.Prelude.{ℕ};
-    ghost use Rattle.ff_poly.specs.PrivatePrimes.{IsKept, reciprocal_of, shift_of, run_of};
+    ghost use Rattle.ff_residues.specs.PrivatePrimes.{IsKept, reciprocal_of, shift_of, run_of};
     ghost use Rattle.std.proofs.Common.{sym};
 
     ghost Value = { ℕ };
@@ -103,6 +103,16 @@ impl Prime {
     {
         let high = (x as u32 * self.reciprocal as u32 >> 16) as u16;
         x - (high >> self.shift) * self.number
+    }
+
+    // How many products of residues, and one residue more, are together below 2^15.
+    #[inline(always)]
+    pub(crate) fn run(self) -> u16
+        ensures some { 0 < result }
+        ensures fits { self + result * ((self - 1) * (self - 1)) ≤ 32768 }
+        ensures whole { IsCharacteristic self }
+    {
+        self.run
     }
 
     /// The sum `a + b` of two residues.

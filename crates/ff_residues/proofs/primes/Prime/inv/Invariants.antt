@@ -1,5 +1,5 @@
 use Rattle.std.proofs.Common.{◌≡◌, ◌*◌, ◌%◌, ◌<◌}
-use Rattle.ff_poly.proofs.primes.Prime.inv.Given as goal
+use Rattle.ff_residues.proofs.primes.Prime.inv.Given as goal
 
 abbrev pub invariant-loop-rest : goal.invariant-loop-rest
 invariant-loop-rest l = record {

@@ -2,7 +2,7 @@ use Rattle.std.proofs.Common.{◌≡◌, ◌≢◌, ◌-◌, ◌*◌, ◌/◌, �
 use Rattle.std.proofs.lemmas.Nat.{mod_below}
 use Rattle.alg_model.specs.Coefficients.{IsCharacteristic}
 use Rattle.alg_rings.proofs.Primes.{characteristic_is_prime, prime_not_divided, inversion_step}
-use Rattle.ff_poly.proofs.primes.Prime.inv.Goals as goal
+use Rattle.ff_residues.proofs.primes.Prime.inv.Goals as goal
 
 pub loop-rest-preserved : goal.loop-rest-preserved
 loop-rest-preserved c =

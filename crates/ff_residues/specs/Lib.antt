@@ -1,0 +1,2 @@
+pub mod PrivatePrimes
+pub mod SumRows
