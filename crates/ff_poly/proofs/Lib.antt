@@ -1,5 +1,3 @@
-pub mod Characteristics
-pub mod Reciprocals
 pub mod ListPlaces
 pub mod Convolutions
 pub mod Quotients

@@ -58,14 +58,3 @@ taken_from n x y above below =
     sym (add-mul-mod_self_left (x + (n - 1) * y) n 1)
     ∙ ap (λ w. w % n) (subst (λ m. x + (n - 1) * y + m * 1 ≡ x + (m - y) + m * y) e (taken_whole (n - 1) x y (omega arith)))
     ∙ add-mul-mod_self_left (x + (n - y)) n y
-
--- a number of a list of residues, and what stands past its end
-pub below_at : (p : ℕ) (xs : List ℕ) (k : ℕ) → 0 < p → All (λ x. x < p) xs → slice_index xs k < p
-below_at p xs k positive v = ⊎_elim
-    (λ l. All-get_or (λ x. x < p) xs k 0 l v)
-    (λ l. let e : slice_index xs k ≡ 0 = get_or_past xs k 0 l in omega arith)
-    (cases_lt k (length xs))
-
--- a product of two residues and a third one
-pub small_step : (p v x a : ℕ) → p < 64 → v < p → x < p → a < p → v * x + a < 4096
-small_step p v x a small lv lx la = let h : v * x ≤ 63 * 63 = mul-le v x 63 63 (omega arith) (omega arith) in omega arith

@@ -1,3 +1,2 @@
 pub mod Polynomial
 pub mod PrivateDivisors
-pub mod PrivatePrimes

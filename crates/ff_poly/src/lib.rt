@@ -12,7 +12,6 @@ mod evaluation;
 mod places;
 mod polynomials;
 mod powers;
-mod primes;
 mod products;
 mod sums;
 #[cfg(test)]
@@ -20,7 +19,7 @@ mod tests;
 
 pub use divisors::Bezout;
 pub use polynomials::Poly;
-pub use primes::{CHARACTERISTICS, Prime, characteristics_in_order};
+pub use ff_residues::{CHARACTERISTICS, PRIMES, Prime, characteristics_in_order};
 
 /// The greatest degree of a field.
 pub const MAX_DEGREE: usize = 48;
@@ -30,9 +29,6 @@ pub const MAX_POLY: usize = 128;
 
 /// The greatest number of coefficients of a polynomial over a field.
 pub const MAX_POLYX: usize = 97;
-
-/// The number of characteristics.
-pub const PRIMES: usize = 18;
 
 /// The limits, as numbers.
 pub fn limits()

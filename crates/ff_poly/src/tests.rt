@@ -524,9 +524,6 @@ fn order(rt: HostRuntime) {
 
 #[test]
 fn refusals(rt: HostRuntime) {
-    for n in [0, 1, 4, 9, 25, 27, 33, 49, 51, 57, 63, 64, 67, 258] {
-        assert!(rt; Prime::of(n).is_none(), "at {n}");
-    }
     let p = Prime::of(31).expect(&rt, "a characteristic");
     assert!(rt; Poly::of_slice(p, &[0; 129]).is_none());
     assert!(rt; Poly::of_slice(p, &[30; 128]).is_some());
@@ -536,37 +533,6 @@ fn refusals(rt: HostRuntime) {
         [3, 0, 30].as_slice()
     );
     assert!(rt; poly(&rt, 31, &[0; 128]).coefficients().is_empty());
-    assert_eq!(rt;
-        (p.add(30, 30), p.sub(1, 30), p.mul(30, 29), p.neg(0)),
-        (29, 2, 2, 0)
-    );
-    assert_eq!(rt; (p.inv(1), p.inv(2), p.inv(12), p.inv(30)), (1, 16, 13, 30));
-}
-
-// The remainder of x by the characteristic n is that of a division.
-fn is_reduced(rt: &impl Abort, n: u32, x: u16) -> bool {
-    let p = Prime::of(n).expect(rt, "a characteristic");
-    assert!(rt; x < 32_768 && n > 0);
-    p.reduced(x) as u32 == x as u32 % n
-}
-
-#[test]
-fn remainders(rt: HostRuntime) {
-    for n in &CHARACTERISTICS {
-        for x in &[0, 1, 60, 61, 3_599, 3_600, 16_383, 30_719, 32_766, 32_767] {
-            assert!(rt; is_reduced(&rt, *n, *x), "at {n} {x}");
-        }
-    }
-}
-
-#[test]
-fn residues(rt: HostRuntime) {
-    let p = Prime::of(61).expect(&rt, "a characteristic");
-    assert_eq!(rt;
-        (p.add(60, 59), p.sub(1, 60), p.mul(60, 59), p.neg(1)),
-        (58, 2, 2, 60)
-    );
-    assert_eq!(rt; (p.inv(1), p.inv(2), p.inv(47), p.inv(60)), (1, 31, 13, 60));
 }
 
 #[test]

@@ -1,2 +1,5 @@
 pub mod Characteristics
 pub mod Reciprocals
+pub mod ResidueLists
+pub mod ChangedPlaces
+pub mod SumRows

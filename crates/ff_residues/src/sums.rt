@@ -19,7 +19,6 @@ pub struct Sums<const W: usize> {
 
 impl<const W: usize> Model for Sums<W> {
     ghost use Rattle.ff_residues.specs.SumRows.{SumRow, IsSumRow};
-    ghost use Rattle.std.proofs.Common.{refl};
 
     ghost Value = { SumRow };
 
@@ -28,8 +27,6 @@ impl<const W: usize> Model for Sums<W> {
     ghost invariant = { λ a. IsSumRow W (record { prime = a.prime; room = a.room; sums = a.sums }) };
 
     ghost inverse = { λ s. record { prime = s.prime; room = s.room; sums = s.sums } };
-
-    ghost inverse_ok = { λ a h i. record { prime = i; room = i; sums = i } };
 }
 
 impl<const W: usize> Sums<W> {
@@ -57,15 +54,41 @@ impl<const W: usize> Sums<W> {
         requires within { start + W ≤ length list.now }
         requires residues { All (λ x. x < self.old.prime) list.now }
         ensures prime { self.new.prime ≡ self.old.prime }
-        ensures whole { IsSumRow W self.new }
         ensures sums { (k : ℕ) → k < W → residue_at self.new k
             ≡ (residue_at self.old k + factor * slice_index list.now (start + k)) % self.old.prime }
+    {
+        self.make_room();
+        self.add_in_room(factor, list, start);
+    }
+
+    // The same where there is room for one product more.
+    #[inline(always)]
+    fn add_in_room(&mut self, factor: u8, list: &[u8], start: usize)
+        requires width { W ≤ MAX_WIDTH }
+        requires room { 0 < self.old.room }
+        requires factor { factor < self.old.prime }
+        requires within { start + W ≤ length list.now }
+        requires residues { All (λ x. x < self.old.prime) list.now }
+        ensures prime { self.new.prime ≡ self.old.prime }
+        ensures sums { (k : ℕ) → k < W → residue_at self.new k
+            ≡ (residue_at self.old k + factor * slice_index list.now (start + k)) % self.old.prime }
+    {
+        let _number = self.prime.number();
+        self.room -= 1;
+        add_products(&mut self.sums, factor, list, start);
+    }
+
+    // Makes room for one product more.
+    #[inline(always)]
+    fn make_room(&mut self)
+        requires { W ≤ MAX_WIDTH }
+        ensures prime { self.new.prime ≡ self.old.prime }
+        ensures room { 0 < self.new.room }
+        ensures residues { (k : ℕ) → residue_at self.new k ≡ residue_at self.old k }
     {
         if self.room == 0 {
             self.reduce();
         }
-        self.room -= 1;
-        add_products(&mut self.sums, factor, list, start);
     }
 
     /// The residue at a place.

@@ -1,0 +1,55 @@
+//! Remainders beside those of a division; the other values were computed with SymPy and PARI.
+use super::*;
+use std::process::Abort;
+
+// The remainder of x by the characteristic n is that of a division.
+fn is_reduced(rt: &impl Abort, n: u32, x: u16) -> bool {
+    let p = Prime::of(n).expect(rt, "a characteristic");
+    assert!(rt; x < 32_768 && n > 0);
+    p.reduced(x) as u32 == x as u32 % n
+}
+
+#[test]
+fn remainders(rt: HostRuntime) {
+    for n in &CHARACTERISTICS {
+        for x in &[0, 1, 60, 61, 3_599, 3_600, 16_383, 30_719, 32_766, 32_767] {
+            assert!(rt; is_reduced(&rt, *n, *x), "at {n} {x}");
+        }
+    }
+}
+
+#[test]
+fn residues(rt: HostRuntime) {
+    let p = Prime::of(61).expect(&rt, "a characteristic");
+    assert_eq!(rt;
+        (p.add(60, 59), p.sub(1, 60), p.mul(60, 59), p.neg(1)),
+        (58, 2, 2, 60)
+    );
+    assert_eq!(rt; (p.inv(1), p.inv(2), p.inv(47), p.inv(60)), (1, 31, 13, 60));
+}
+
+#[test]
+fn characteristics(rt: HostRuntime) {
+    for n in [0, 1, 4, 9, 25, 27, 33, 49, 51, 57, 63, 64, 67, 258] {
+        assert!(rt; Prime::of(n).is_none(), "at {n}");
+    }
+    let p = Prime::of(31).expect(&rt, "a characteristic");
+    assert_eq!(rt;
+        (p.add(30, 30), p.sub(1, 30), p.mul(30, 29), p.neg(0)),
+        (29, 2, 2, 0)
+    );
+    assert_eq!(rt; (p.inv(1), p.inv(2), p.inv(12), p.inv(30)), (1, 16, 13, 30));
+}
+
+// Sums of 20,000 products 60 * 59 modulo 61 and one more residue: by hand, 20,000 * 60 * 59 + 7 = 70,800,007 = 61 * 1,160,655 + 52.
+#[test]
+fn sums(rt: HostRuntime) {
+    let p = Prime::of(61).expect(&rt, "a characteristic");
+    let list = [59, 59, 0, 59, 59, 59, 59, 59, 59];
+    let mut sums = Sums::of(p, &[7; 8]);
+    for _i in 0..20_000 {
+        sums.add(60, &list, 1);
+    }
+    assert_eq!(rt; sums.row(), [52, 7, 52, 52, 52, 52, 52, 52]);
+    assert_eq!(rt; (sums.at(0), sums.at(1)), (52, 7));
+}

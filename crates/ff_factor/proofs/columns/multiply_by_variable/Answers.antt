@@ -2,7 +2,7 @@ use Rattle.std.proofs.Common.{◌+◌, ◌*◌, ◌%◌, ◌<◌, ◌≤◌, ◌
 use Rattle.std.proofs.lemmas.Bool.{cases_eq}
 use Rattle.std.proofs.lemmas.List.{length-set, get_or-set_same, get_or-set_other}
 use Rattle.std.proofs.lemmas.List.Elements.{All-set}
-use Rattle.ff_poly.proofs.ListPlaces.{below_at}
+use Rattle.ff_residues.proofs.ResidueLists.{below_at}
 use Rattle.ff_factor.proofs.TimesVariable.{product_by_places}
 use Rattle.ff_factor.proofs.columns.multiply_by_variable.Goals as goal
 

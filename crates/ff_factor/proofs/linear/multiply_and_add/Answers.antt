@@ -1,7 +1,7 @@
 use Rattle.std.proofs.Common.{◌+◌, ◌*◌, ◌%◌, ◌<◌, length, slice_index, ap, ◌∙◌, arith}
 use Rattle.std.proofs.lemmas.List.{length-set}
 use Rattle.ff_matrix.proofs.RowPlaces.{done_more}
-use Rattle.ff_poly.proofs.ListPlaces.{below_at, small_step}
+use Rattle.ff_residues.proofs.ResidueLists.{below_at, small_step}
 use Rattle.ff_factor.proofs.linear.multiply_and_add.Goals as goal
 
 pub overflow_mul-values : goal.overflow_mul-values

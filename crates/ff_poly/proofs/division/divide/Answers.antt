@@ -4,7 +4,7 @@ use native.Mathlib.Nat.{mod-add-mod, mod-mod, zero-add}
 use Rattle.alg_model.specs.Polynomials.{convolution}
 use Rattle.alg_rings.proofs.Residues.{nat_ops, product_mod}
 use Rattle.std.proofs.lemmas.Nat.{mul-mod_first}
-use Rattle.ff_poly.proofs.ListPlaces.{below_at}
+use Rattle.ff_residues.proofs.ResidueLists.{below_at}
 use Rattle.ff_poly.proofs.Quotients.{negative_multiple, Divided, start_division, top_factor, division_round}
 use Rattle.ff_poly.proofs.division.divide.Goals as goal
 

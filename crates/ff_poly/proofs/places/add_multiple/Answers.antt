@@ -3,7 +3,7 @@ use Rattle.std.proofs.lemmas.Bool.{cases_lt, cases_eq}
 use Rattle.std.proofs.lemmas.List.{get_or_past, get_or-set_same, get_or-set_other}
 use Rattle.std.proofs.lemmas.List.Elements.{All-set}
 use native.Mathlib.Nat.{mul-zero, add-zero}
-use Rattle.ff_poly.proofs.ListPlaces.{below_at, small_step}
+use Rattle.ff_residues.proofs.ResidueLists.{below_at, small_step}
 use Rattle.ff_poly.proofs.places.add_multiple.Goals as goal
 
 pub overflow_mul-factor : goal.overflow_mul-factor

@@ -2,7 +2,7 @@ use Rattle.std.proofs.Common.{◌≡◌, ℕ, ◌<◌, slice_index, ◌∙◌, s
 use Rattle.std.proofs.lemmas.Bool.{cases_lt}
 use Rattle.std.proofs.lemmas.List.{get_or_past}
 use Rattle.std.proofs.lemmas.List.Elements.{All-from_get_or}
-use Rattle.ff_poly.proofs.ListPlaces.{below_at}
+use Rattle.ff_residues.proofs.ResidueLists.{below_at}
 use Rattle.ff_poly.proofs.places.places_of.Goals as goal
 use Rattle.ff_poly.proofs.places.places_of.Goals.{After-loop-i}
 

@@ -2,7 +2,7 @@ use Rattle.std.proofs.Common.{◌≡◌, ℕ, ◌%◌, ◌<◌, slice_index, ap,
 use Rattle.alg_model.specs.Coefficients.{mod_ops}
 use Rattle.alg_rings.proofs.Residues.{zero_test}
 use Rattle.alg_rings.proofs.Trims.{trim_at, trim_same}
-use Rattle.ff_poly.proofs.ListPlaces.{below_at}
+use Rattle.ff_residues.proofs.ResidueLists.{below_at}
 use Rattle.ff_poly.proofs.places.poly_of_places.Goals as goal
 use Rattle.ff_poly.proofs.places.poly_of_places.Goals.{After-trimmed}
 
