@@ -18,8 +18,8 @@ mod sums;
 mod tests;
 
 pub use divisors::Bezout;
-pub use polynomials::Poly;
 pub use ff_residues::{CHARACTERISTICS, PRIMES, Prime, characteristics_in_order};
+pub use polynomials::Poly;
 
 /// The greatest degree of a field.
 pub const MAX_DEGREE: usize = 48;

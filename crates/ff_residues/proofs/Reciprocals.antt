@@ -1,6 +1,6 @@
 -- Quotients by a reciprocal.
-use Rattle.std.proofs.Common.{◌≡◌, ℕ, ◌+◌, ◌-◌, ◌*◌, ◌/◌, ◌%◌, ◌^◌, ◌<◌, ◌≤◌, refl, ap, ap₂, sym, ◌∙◌, subst, arith, rules, lit<}
-use Rattle.std.proofs.Math.Nat.{div-add-mod, div-div-eq-div-mul, div-eq_of_lt-le, le_of_mul-le-mul_right, lt_of_mul-lt-mul_left, mul-le-mul_right, mul-le-mul_left, div-mul-le_self, lt-div-mul-add, mul_comm, mul_assoc}
+use Rattle.std.proofs.Common.{◌≡◌, ℕ, ◌+◌, ◌-◌, ◌*◌, ◌/◌, ◌%◌, ◌^◌, ◌<◌, ◌≤◌, ap, ap₂, ◌∙◌, arith, rules}
+use Rattle.std.proofs.Math.Nat.{div-add-mod, div-div-eq-div-mul, div-eq_of_lt-le, le_of_mul-le-mul_right, lt_of_mul-lt-mul_left, mul-le-mul_right, mul-le-mul_left, div-mul-le_self, lt-div-mul-add, mul_comm}
 use Rattle.std.proofs.lemmas.Nat.{mod_below}
 use Rattle.alg_model.specs.Coefficients.{IsCharacteristic}
 use Rattle.alg_rings.proofs.Primes.{each_characteristic}

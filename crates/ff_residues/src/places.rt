@@ -55,7 +55,12 @@ pub(crate) fn narrowed<const W: usize>(p: Prime, sums: &[u16; W]) -> [u8; W]
 
 // Adds `factor` times the numbers of the list from `start` on.
 #[inline(always)]
-pub(crate) fn add_products<const W: usize>(sums: &mut [u16; W], factor: u8, list: &[u8], start: usize)
+pub(crate) fn add_products<const W: usize>(
+    sums: &mut [u16; W],
+    factor: u8,
+    list: &[u8],
+    start: usize,
+)
     requires width { W ≤ MAX_WIDTH }
     requires within { start + W ≤ length list.now }
     requires fits { (k : ℕ) → k < W → slice_index sums.old k + factor * slice_index list.now (start + k) < 2 ^ 15 }

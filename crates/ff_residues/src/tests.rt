@@ -1,4 +1,6 @@
 //! Remainders beside those of a division; the other values were computed with SymPy and PARI.
+ghost use Rattle.std.specs.Prelude.{◌≡◌, ◌<◌, ◌≤◌, All, length};
+
 use super::*;
 use std::process::Abort;
 
@@ -41,15 +43,28 @@ fn characteristics(rt: HostRuntime) {
     assert_eq!(rt; (p.inv(1), p.inv(2), p.inv(12), p.inv(30)), (1, 16, 13, 30));
 }
 
-// Sums of 20,000 products 60 * 59 modulo 61 and one more residue: by hand, 20,000 * 60 * 59 + 7 = 70,800,007 = 61 * 1,160,655 + 52.
+// The sums with `count` products more.
+fn added(mut sums: Sums<8>, list: &[u8], count: u16) -> Sums<8>
+    requires prime { sums.prime ≡ 61 }
+    requires list { 9 ≤ length list.now }
+    requires residues { All (λ x. x < 61) list.now }
+    ensures { result.prime ≡ 61 }
+{
+    for _i in 0..count {
+        sums.add(60, list, 1);
+    }
+    sums
+}
+
+// 20,000 products 60 * 59 modulo 61 and one residue more: by hand, 20,000 * 60 * 59 + 7 = 70,800,007 = 61 * 1,160,655 + 52.
 #[test]
 fn sums(rt: HostRuntime) {
     let p = Prime::of(61).expect(&rt, "a characteristic");
-    let list = [59, 59, 0, 59, 59, 59, 59, 59, 59];
-    let mut sums = Sums::of(p, &[7; 8]);
-    for _i in 0..20_000 {
-        sums.add(60, &list, 1);
-    }
+    let sums = added(
+        Sums::of(p, &[7; 8]),
+        &[59, 59, 0, 59, 59, 59, 59, 59, 59],
+        20_000,
+    );
     assert_eq!(rt; sums.row(), [52, 7, 52, 52, 52, 52, 52, 52]);
     assert_eq!(rt; (sums.at(0), sums.at(1)), (52, 7));
 }

@@ -1,4 +1,4 @@
-use Rattle.std.proofs.Common.{◌≡◌, ℕ, ◌+◌, ◌*◌, ◌<◌, ◌≤◌, slice_index, ap, ◌∙◌, arith, refl}
+use Rattle.std.proofs.Common.{◌+◌, ◌*◌, slice_index, ap, arith}
 use Rattle.ff_residues.proofs.ChangedPlaces.{nothing_changed, one_changed}
 use Rattle.ff_residues.proofs.places.add_products.Goals as goal
 

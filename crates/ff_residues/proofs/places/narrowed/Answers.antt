@@ -1,4 +1,4 @@
-use Rattle.std.proofs.Common.{◌≡◌, ℕ, ◌%◌, ◌≤◌, slice_index, ap, ◌∙◌, arith}
+use Rattle.std.proofs.Common.{◌%◌, slice_index, ap, ◌∙◌, arith}
 use Rattle.std.proofs.lemmas.List.{get_or_past}
 use native.Mathlib.Nat.{zero-mod}
 use Rattle.ff_residues.proofs.ChangedPlaces.{nothing_changed, one_changed, all_changed}

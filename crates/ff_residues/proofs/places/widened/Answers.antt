@@ -1,4 +1,4 @@
-use Rattle.std.proofs.Common.{◌≡◌, ℕ, ◌≤◌, length, slice_index, refl, arith}
+use Rattle.std.proofs.Common.{slice_index, refl, arith}
 use Rattle.std.proofs.lemmas.List.{get_or_past}
 use Rattle.ff_residues.proofs.ChangedPlaces.{nothing_changed, one_changed, all_changed}
 use Rattle.ff_residues.proofs.places.widened.Goals as goal

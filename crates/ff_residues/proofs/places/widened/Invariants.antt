@@ -1,4 +1,4 @@
-use Rattle.std.proofs.Common.{ℕ, slice_index}
+use Rattle.std.proofs.Common.{slice_index}
 use Rattle.ff_residues.proofs.ChangedPlaces.{ChangedBelow}
 use Rattle.ff_residues.proofs.places.widened.Given as goal
 

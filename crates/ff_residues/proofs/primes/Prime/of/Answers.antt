@@ -1,5 +1,3 @@
-use Rattle.std.proofs.Common.{◌≡◌, ap, arith}
-use Rattle.alg_model.specs.Coefficients.{IsCharacteristic}
 use Rattle.ff_residues.proofs.Characteristics.{characteristic_from_any}
 use Rattle.ff_residues.proofs.primes.Prime.of.Goals as goal
 

@@ -1,4 +1,4 @@
-use Rattle.std.proofs.Common.{◌≡◌, ◌%◌, ◌<◌, ap, ◌∙◌, subst, sym}
+use Rattle.std.proofs.Common.{◌%◌, ◌<◌, ap, ◌∙◌, subst, sym}
 use Rattle.std.proofs.lemmas.Nat.{mod_below}
 use Rattle.ff_residues.proofs.Reciprocals.{reduced_by, above_zero}
 use Rattle.ff_residues.proofs.primes.Prime.reduced.Goals as goal

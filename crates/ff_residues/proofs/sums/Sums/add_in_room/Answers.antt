@@ -1,7 +1,6 @@
-use Rattle.std.proofs.Common.{◌≡◌, ℕ, ◌+◌, ◌-◌, ◌*◌, ◌<◌, ◌≤◌, All, length, slice_index, ap, subst, arith, ⊎_elim, sym, ◌∙◌}
+use Rattle.std.proofs.Common.{◌≡◌, ◌+◌, ◌-◌, ◌*◌, ◌<◌, ◌≤◌, All, slice_index, ap, subst, arith, ⊎_elim, sym}
 use Rattle.std.proofs.lemmas.Bool.{cases_lt}
 use Rattle.std.proofs.lemmas.List.{get_or_past}
-use Rattle.ff_residues.specs.SumRows.{IsSumRow}
 use Rattle.ff_residues.proofs.ResidueLists.{below_at}
 use Rattle.ff_residues.proofs.SumRows.{product_added, sum_fits, less_room}
 use Rattle.ff_residues.proofs.sums.Sums.add_in_room.Goals as goal
@@ -13,10 +12,18 @@ add_products-requires g c =
     let r : c.args.self.now.room ≡ c.self.inside.room = sym (ap (λ s. s.room) c.self.view_is) in
     let factor : c.args.factor < p = subst (λ q. c.args.factor < q) e c.requires.factor in
     let residues : All (λ x. x < p) c.args.list.now = subst (λ q. All (λ x. x < q) c.args.list.now) e c.requires.residues in
-    let width : g.row.W ≤ 128 = c.requires.width in
-    (omega arith, (c.requires.width, (c.requires.within, λ k l.
-    sum_fits _ (c.self.inside.room - 1) ((p - 1) * (p - 1)) (product_added p c.self.inside.room (slice_index c.self.inside.sums k) c.args.factor (slice_index c.args.list.now (c.args.start + k))
-    (let h : 0 < c.args.self.now.room = c.requires.room in omega arith) factor (below_at p c.args.list.now (c.args.start + k) (omega arith) residues) (c.self.invariant.fits k)))))
+    let width : g.row.W ≤ 128 = c.requires.width in (
+      omega arith,
+      (
+        c.requires.width,
+        (
+          c.requires.within,
+          λ k l.
+              sum_fits _ (c.self.inside.room - 1) ((p - 1) * (p - 1)) (product_added p c.self.inside.room (slice_index c.self.inside.sums k) c.args.factor (slice_index c.args.list.now (c.args.start + k))
+              (let h : 0 < c.args.self.now.room = c.requires.room in omega arith) factor (below_at p c.args.list.now (c.args.start + k) (omega arith) residues) (c.self.invariant.fits k)),
+        ),
+      ),
+    )
 
 pub invariant_of-self : goal.invariant_of-self
 invariant_of-self g c =

@@ -1,4 +1,4 @@
-use Rattle.std.proofs.Common.{◌≡◌, ℕ, ◌%◌, ◌<◌, slice_index, ap, ◌∙◌, arith, mod-eq_of_lt}
+use Rattle.std.proofs.Common.{◌%◌, ◌<◌, ap, ◌∙◌, arith, mod-eq_of_lt}
 use Rattle.ff_residues.proofs.ResidueLists.{below_at}
 use Rattle.ff_residues.proofs.sums.Sums.of.Goals as goal
 
