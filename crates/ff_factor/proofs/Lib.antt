@@ -14,3 +14,5 @@ pub mod PowersOfVariable
 pub mod CriterionOverResidues
 pub mod Identities
 pub mod TimesVariable
+pub mod Counting
+pub mod LeastPolynomials

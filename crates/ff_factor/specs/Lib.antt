@@ -1,3 +1,4 @@
 pub mod Certificates
 pub mod FactorLists
 pub mod PrivateSplitting
+pub mod PrivateCounting

@@ -7,6 +7,7 @@
 mod certificates;
 mod columns;
 mod factorization;
+mod least;
 mod linear;
 mod polynomials;
 mod splitting;
@@ -16,4 +17,5 @@ mod verdicts;
 
 pub use certificates::{Cert, certificates_are_sound, check};
 pub use factorization::{FactorList, factors};
+pub use least::least_irreducible;
 pub use verdicts::{Verdict, judge};
