@@ -1,5 +1,6 @@
-//! Lattices of finite fields: the theory of compatible lattices for the fields and maps of the model, and the laws that a reader
-//! of their contracts may want, as contracts of functions that do nothing.
+//! Lattices of finite fields: the theory of compatible lattices for the fields and maps of the
+//! model, and the laws that a reader of their contracts may want, as contracts of functions that do
+//! nothing.
 #![tactic(auto)]
 
 ghost use Rattle.alg_compatible.specs.Theorems.{OpeningIsCompatible, DeclaringKeepsCompatible, DeclaringKeepsRows, FillingKeepsCompatible};
@@ -8,7 +9,8 @@ ghost use Rattle.alg_compatible.specs.Theorems.{ChoiceIsUnique, MissingDegreesEx
 ghost use Rattle.alg_compatible.specs.Theorems.{AddedMapsAreForced, StoredPairChangesNothing, OpeningIsDetermined, DeclaringIsDetermined};
 ghost use Rattle.alg_compatible.specs.Theorems.{FillingIsDetermined, FillingExists, OpeningExists, DeclaringExists};
 
-/// The prime fields with their identities are a compatible lattice, the one opening lattice of their edition.
+/// The prime fields with their identities are a compatible lattice, the one opening lattice of
+/// their edition.
 pub fn opening_is_compatible()
     ensures compatible { OpeningIsCompatible }
     ensures exists { OpeningExists }
@@ -23,8 +25,8 @@ pub fn declaring_keeps_compatible()
     ensures determined { DeclaringIsDetermined }
 {}
 
-/// Filling a compatible lattice by a candidate leaves it compatible, and stores what the rules for members, for maps out of them
-/// and for all else say.
+/// Filling a compatible lattice by a candidate leaves it compatible, and stores what the rules for
+/// members, for maps out of them and for all else say.
 pub fn filling_keeps_compatible()
     ensures compatible { FillingKeepsCompatible }
     ensures rows { FillingKeepsRows }
@@ -33,8 +35,8 @@ pub fn filling_keeps_compatible()
     ensures determined { FillingIsDetermined }
 {}
 
-/// The extension theorem: where one field of a compatible lattice has an embedding into another at all, it has one that agrees with
-/// all common subfields; among all that do, one is the first.
+/// The extension theorem: where one field of a compatible lattice has an embedding into another at
+/// all, it has one that agrees with all common subfields; among all that do, one is the first.
 pub fn plain_embedding_exists()
     ensures candidate { PlainEmbeddingExists }
     ensures choice { ChoiceExists }
