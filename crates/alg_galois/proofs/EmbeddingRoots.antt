@@ -124,16 +124,22 @@ module _ (E F : Field) (V : IsFiniteField E) (W : IsFiniteField F) where
   -- **which agree exactly if they agree modulo the degree**
   pub root_powers_agree : E.characteristic ≡ F.characteristic → (v : List ℕ)
       → IsRoot F (constants F E.polynomial) v → (s t : ℕ)
-      → power (field_values F).ops v (F.characteristic ^ s)
-      ≡ power (field_values F).ops v (F.characteristic ^ t) → s % degree_of E ≡ t % degree_of E
+      → (power (field_values F).ops v (F.characteristic ^ s)
+      ≡ power (field_values F).ops v (F.characteristic ^ t)) ↔ (s % degree_of E ≡ t % degree_of E)
   root_powers_agree e v r s t = of_two_fields (λ E F. IsRoot F (constants F E.polynomial) v
-      → power (field_values F).ops v (F.characteristic ^ s)
-      ≡ power (field_values F).ops v (F.characteristic ^ t) → s % degree_of E ≡ t % degree_of E)
-      (λ p h f M g N r q. FieldFrobenius.powers_agree_on_root p h f M g N (v, r.0)
-      (root_from p h f M g N v r) s t
-      (underlying_injective (propositional p h g N) _ _
-      (power_value p h g N (v, r.0) (p ^ s) ∙ q ∙ sym (power_value p h g N (v, r.0) (p ^ t))))) E F
-      V W e r
+      → (power (field_values F).ops v (F.characteristic ^ s)
+      ≡ power (field_values F).ops v (F.characteristic ^ t)) ↔ (s % degree_of E ≡ t % degree_of E))
+      (λ p h f M g N r. (
+        λ q. FieldFrobenius.powers_agree_on_root p h f M g N (v, r.0)
+            (root_from p h f M g N v r) s t
+            (underlying_injective (propositional p h g N) _ _
+            (power_value p h g N (v, r.0) (p ^ s) ∙ q ∙ sym (power_value p h g N (v, r.0) (p ^ t)))),
+        λ q. sym (power_value p h g N (v, r.0) (p ^ s))
+            ∙ ap (λ y. y.0) (FieldFrobenius.same_powers_on_root p h f M g N (v, r.0)
+            (root_from p h f M g N v r) s t q)
+            ∙ power_value p h g N (v, r.0) (p ^ t),
+      ))
+      E F V W e r
 
   -- **a root gives an embedding, its powers, that sends the generator to it**
   pub embedding_of_root : E.characteristic ≡ F.characteristic → (v : List ℕ)
@@ -197,7 +203,15 @@ module _ (E F : Field) (V : IsFiniteField E) (W : IsFiniteField F) where
         (λ p h f M g N D. ap (λ y. y.0) (function_homomorphism p h f M g N m D).zero) E F V W
         D.same_characteristic D
 
-    -- **a value is a root exactly if its image is**
+    -- **the image of a root is a root**
+    pub root_to_image : (g : List ℕ) → IsPolynomial (residues E.characteristic) g → (a : List ℕ)
+        → IsRoot E (constants E g) a → IsRoot F (constants F g) (apply F m a)
+    root_to_image q k a r = (
+      apply_valid E F V W m D a r.0,
+      sym (apply_value_at q k a r.0) ∙ ap (apply F m) r.1 ∙ zero_kept,
+    )
+
+    -- **and only that of a root**
     pub root_from_image : (g : List ℕ) → IsPolynomial (residues E.characteristic) g → (a : List ℕ)
         → (field_values E).Valid a
         → IsRoot F (constants F g) (apply F m a) → IsRoot E (constants E g) a
@@ -294,8 +308,8 @@ module _ (E F : Field) (V : IsFiniteField E) (W : IsFiniteField F) where
         → (comp F m (frobenius_map F s) ≡ comp F m (frobenius_map F t))
         ↔ (s % degree_of E ≡ t % degree_of E)
     powers_after_embedding s t = (
-      (λ e. root_powers_agree D.same_characteristic (apply F m (generator E))
-          (generator_image_root m D) s t
+      (λ e. (root_powers_agree D.same_characteristic (apply F m (generator E))
+          (generator_image_root m D) s t).0
           (sym (apply_after_frobenius s (generator E) (generator_is_value E F V W))
           ∙ ap (λ c. apply F c (generator E)) e
           ∙ apply_after_frobenius t (generator E) (generator_is_value E F V W))),
@@ -342,6 +356,23 @@ module _ (F : Field) (W : IsFiniteField F) where
       ≡ power (field_values F).ops a (F.characteristic ^ t)
   power_is a va t = power_value F.characteristic W.characteristic F.polynomial (modulus_of F W)
       (a, va) (F.characteristic ^ t)
+
+  -- **powers of Frobenius send roots to roots**
+  pub powers_are_roots : (f : List ℕ) → IsPolynomial (residues F.characteristic) f → (a : List ℕ)
+      → IsRoot F (constants F f) a → (t : ℕ)
+      → IsRoot F (constants F f) (power (field_values F).ops a (F.characteristic ^ t))
+  powers_are_roots f k a r t = subst (IsRoot F (constants F f)) (apply_frobenius F W t a r.0)
+      (root_to_image F F W W (frobenius_map F t) (frobenius_embedding F W t) f k a r)
+
+  -- **they agree on the generator exactly if they agree modulo the degree**
+  pub generator_powers_agree : (s t : ℕ)
+      → (power (field_values F).ops (generator F) (F.characteristic ^ s)
+      ≡ power (field_values F).ops (generator F) (F.characteristic ^ t))
+      ↔ (s % degree_of F ≡ t % degree_of F)
+  generator_powers_agree = root_powers_agree F F W W refl (generator F)
+      (subst (IsRoot F (constants F F.polynomial))
+      (apply_identity F W (generator F) (generator_is_value F F W W))
+      (generator_image_root F F W W (identity_map F) (identity_embedding F W)))
 
   -- **the power 0 of Frobenius is the identity**
   pub frobenius_zero : frobenius_map F 0 ≡ identity_map F

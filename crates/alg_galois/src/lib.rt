@@ -10,6 +10,8 @@ ghost use Rattle.alg_galois.specs.Theorems.{EmbeddingsDiffer, PowerIsDetermined,
 ghost use Rattle.alg_galois.specs.Theorems.{MeetIsGcd, TraceIsConstant, TraceParts, TraceOverParts};
 ghost use Rattle.alg_galois.specs.Theorems.{TraceIsTransitive, NormIsTransitive, IrreducibleExists, LeastIsUnique};
 ghost use Rattle.alg_galois.specs.Theorems.{MinimalExists, MinimalIsUnique, MinimalIsIrreducible, MinimalDivides};
+ghost use Rattle.alg_galois.specs.Theorems.{PowersAreRoots, FrobeniusIsEmbedding, GeneratorOrbitIsLong};
+ghost use Rattle.alg_galois.specs.Theorems.{PrimeMinimalExists, PrimeMinimalIsUnique, PrimeMinimalIsIrreducible, PrimeMinimalDivides};
 
 /// The values of a finite field of characteristic p and degree n form a field with p^n elements,
 /// each its own power p^n.
@@ -19,18 +21,22 @@ pub fn residue_field_is_finite()
     ensures powers { ValueIsItsPower }
 {}
 
-/// Frobenius, which sends a to a^p, has the order n on the generator of a field of degree n, and
-/// fixes the constants alone.
+/// Frobenius, which sends a to a^p, and each power of it is an embedding of a field in itself. It
+/// has the order n on the generator of a field of degree n, and fixes the constants alone.
 pub fn frobenius_has_order_of_degree()
+    ensures embedding { FrobeniusIsEmbedding }
     ensures order { FrobeniusHasOrder }
+    ensures orbit { GeneratorOrbitIsLong }
     ensures fixes { FrobeniusFixesConstants }
 {}
 
 /// The polynomial of a field E of degree d has a root in a field F exactly if d divides the degree
-/// of F; its roots are d different values, one orbit of Frobenius.
+/// of F; its roots are d different values, one orbit of Frobenius, which sends the roots of each
+/// polynomial over the prime field to roots.
 pub fn roots_are_one_orbit()
     ensures exists { RootExists }
     ensures degree { RootNeedsDegree }
+    ensures powers { PowersAreRoots }
     ensures orbit { RootsAreOneOrbit }
     ensures different { OrbitIsLong }
 {}
@@ -73,6 +79,15 @@ pub fn trace_parts_values()
 pub fn irreducible_of_each_degree()
     ensures exists { IrreducibleExists }
     ensures unique { LeastIsUnique }
+{}
+
+/// A value has one minimal polynomial over the prime field: it is irreducible, and divides each
+/// polynomial over the prime field that vanishes there.
+pub fn minimal_polynomial_over_prime_field()
+    ensures exists { PrimeMinimalExists }
+    ensures unique { PrimeMinimalIsUnique }
+    ensures irreducible { PrimeMinimalIsIrreducible }
+    ensures divides { PrimeMinimalDivides }
 {}
 
 /// A value has one minimal polynomial over a subfield: it is irreducible, and divides each
