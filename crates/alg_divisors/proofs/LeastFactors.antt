@@ -14,7 +14,7 @@ use Rattle.alg_divisors.specs.Factorization.{IsFactorization}
 use Rattle.alg_divisors.proofs.Factorization
 use Rattle.alg_divisors.proofs.Least
 use Rattle.alg_rings.proofs.PolynomialOrder.{order_by_total, order_by_same, order_by_shorter, order_by_not_longer}
-use Rattle.alg_divisors.proofs.EuclideanPolynomials.{polynomials_euclidean}
+use Rattle.alg_divisors.proofs.EuclideanPolynomials.{polynomials_euclidean, over_field}
 use Rattle.alg_divisors.proofs.PolynomialFactors.{Members, members_of_factorization, product_of_members, proper_to, proper_from, irreducible_to}
 
 -- members of a list and of its image
@@ -36,14 +36,7 @@ least_factor_unique {A} {c} {cmp} T same {f} {g} {h} p q = compared (order_by cm
     compared Greater e = absurd (p.least h q.factor ((order_by_total T).antisymm h g ∙ ap ordering_reverse e))
 
 module _ {A : Type 0} {c : Carrier A} (P : IsPropositional c) (F : IsField c) (cmp : A → A → Ordering) where
-  abbrev Q : Ops (Polynomial c)
-  Q = polynomial_ops P F.ring
-
-  abbrev size : Polynomial c → ℕ
-  size f = length f.0
-
-  abbrev Monic : Polynomial c → Type 0
-  Monic f = IsMonic c f.0
+  open over_field P F use {ops as Q, size, Monic}
 
   abbrev pub Before : Polynomial c → Polynomial c → Type 0
   Before f g = order_by cmp f.0 g.0 ≡ Less

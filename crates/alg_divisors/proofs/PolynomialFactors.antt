@@ -14,20 +14,10 @@ use Rattle.alg_divisors.proofs.Euclidean
 use Rattle.alg_divisors.proofs.Gcd
 use Rattle.alg_divisors.proofs.Irreducible
 use Rattle.alg_divisors.proofs.Factorization
-use Rattle.alg_divisors.proofs.EuclideanPolynomials.{polynomials_euclidean}
+use Rattle.alg_divisors.proofs.EuclideanPolynomials.{polynomials_euclidean, over_field}
 
 module _ {A : Type 0} {c : Carrier A} (P : IsPropositional c) (F : IsField c) where
-  abbrev Q : Ops (Polynomial c)
-  Q = polynomial_ops P F.ring
-
-  abbrev size : Polynomial c → ℕ
-  size f = length f.0
-
-  abbrev Monic : Polynomial c → Type 0
-  Monic f = IsMonic c f.0
-
-  abbrev E : Euclidean.EuclideanLaws (polynomial_ops P F.ring) (λ f. length f.0) (λ f. IsMonic c f.0)
-  E = polynomials_euclidean P F
+  open over_field P F use {ops as Q, size, Monic, laws as E}
 
   same : (f g : Polynomial c) → f.0 ≡ g.0 → f ≡ g
   same f g e = same_polynomial P F.ring f g e

@@ -20,7 +20,7 @@ use Rattle.alg_divisors.proofs.Euclidean
 use Rattle.alg_divisors.proofs.Gcd
 use Rattle.alg_divisors.proofs.Irreducible
 use Rattle.alg_divisors.proofs.Factorization
-use Rattle.alg_divisors.proofs.EuclideanPolynomials.{polynomials_euclidean}
+use Rattle.alg_divisors.proofs.EuclideanPolynomials.{polynomials_euclidean, over_field}
 use Rattle.alg_divisors.proofs.PolynomialFactors.{divides_to, divides_from, combination_to, combination_from, proper_to, irreducible_to, irreducible_from, gcd_to, gcd_unique, product_of-map}
 use Rattle.alg_fields.specs.Fixed.{IsFixed, less_constant, IsCertified}
 use Rattle.alg_rings.proofs.Modulo
@@ -40,11 +40,7 @@ use Rattle.alg_fields.proofs.Gcds
 use Rattle.alg_rings.proofs.Rings
 
 module _ {A : Type 0} {c : Carrier A} (P : IsPropositional c) (F : IsField c) where
-  abbrev Q : Ops (Polynomial c)
-  Q = polynomial_ops P F.ring
-
-  abbrev E : Euclidean.EuclideanLaws (polynomial_ops P F.ring) (λ x. length x.0) (λ x. IsMonic c x.0)
-  E = polynomials_euclidean P F
+  open over_field P F use {ops as Q, laws as E}
 
   pub fixed_to : (q : ℕ) (f v : Polynomial c) → Fixed (polynomial_ops P F.ring) q f v → IsFixed c q f.0 v.0
   fixed_to q f v h =

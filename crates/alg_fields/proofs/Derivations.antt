@@ -6,9 +6,9 @@ use Rattle.alg_model.specs.Polynomials.{poly_sum, poly_product, derivative, eval
 use Rattle.alg_model.specs.Fields.{IsRing}
 use Rattle.alg_rings.specs.Laws.{RingLaws, IsPropositional}
 use Rattle.alg_rings.proofs.Homomorphisms.{Homomorphism, poly_sum-map, poly_product-map, derivative-map}
-use Rattle.alg_rings.proofs.Elements.{Element, underlying, element_ops, underlying_homomorphism, on_valid₂, element_laws, elements, elements_are}
+use Rattle.alg_rings.proofs.Elements.{Element, underlying, element_ops, underlying_homomorphism, on_valid₂, element_laws, elements, elements_are, on_elements}
 use Rattle.alg_rings.proofs.CarrierPolynomials.{derivative_polynomial}
-use Rattle.alg_rings.proofs.Divisors.{Polynomial, polynomial_ops, polynomial_laws, same_polynomial}
+use Rattle.alg_rings.proofs.Divisors.{Polynomial, polynomial_ops, polynomial_laws, same_polynomial, on_polynomials}
 use Rattle.alg_fields.proofs.Derivatives
 use Rattle.alg_fields.proofs.Derivatives.{raw_derivative}
 use Rattle.alg_fields.proofs.Squares
@@ -23,17 +23,8 @@ use Rattle.alg_fields.proofs.Constants.{constant, constant_homomorphism}
 use Rattle.alg_rings.proofs.Trims
 
 module _ {A : Type 0} {c : Carrier A} (P : IsPropositional c) (R : IsRing c) where
-  abbrev E : Ops (Element c)
-  E = element_ops R
-
-  abbrev L : RingLaws (element_ops R)
-  L = element_laws P R
-
-  abbrev Q : Ops (Polynomial c)
-  Q = polynomial_ops P R
-
-  abbrev H : Homomorphism (element_ops R) c.ops (underlying c)
-  H = underlying_homomorphism R
+  open on_elements P R use {ops as E, laws as L, value as H}
+  open on_polynomials P R use {ops as Q}
 
   abbrev pub derivative_of : Polynomial c → Polynomial c
   derivative_of f = (derivative c.ops f.0, derivative_polynomial P R f.0 f.1)

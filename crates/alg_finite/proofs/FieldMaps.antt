@@ -5,13 +5,6 @@ use Rattle.alg_rings.specs.Laws.{RingLaws, FieldLaws}
 use Rattle.alg_rings.proofs.Rings
 use Rattle.alg_rings.proofs.Homomorphisms.{Homomorphism}
 
--- two elements of a ring are equal or not
-pub equal_or_not : {A : Type 0} {o : Ops A} → RingLaws o → (x y : A) → (x ≡ y) ⊎ (x ≢ y)
-equal_or_not {A} {o} R x y = ⊎_elim
-    (λ e. inl (Rings.same_from_difference R x y e))
-    (λ n. inr (λ e. n (ap (λ t. o.add t (o.neg y)) e ∙ R.add_neg y)))
-    (Rings.zero_or_not o R.zero_test (o.add x (o.neg y)))
-
 module _ {A B : Type 0} {o : Ops A} {o' : Ops B} {h : A → B} where
   -- a map that keeps the operations of rings and tells zero is injective
   pub injective : RingLaws o → RingLaws o' → Homomorphism o o' h → (x y : A) → h x ≡ h y → x ≡ y

@@ -20,14 +20,14 @@ use Rattle.alg_rings.proofs.Rings.{sorted}
 use Rattle.alg_rings.proofs.Lists
 use Rattle.alg_rings.proofs.Trims
 use Rattle.alg_rings.proofs.Monomials.{monomial, monomial_at, monomial_elsewhere}
-use Rattle.alg_rings.proofs.Elements.{Element, underlying, element_ops, underlying_homomorphism}
+use Rattle.alg_rings.proofs.Elements.{Element, underlying, element_ops, underlying_homomorphism, on_elements}
 use Rattle.alg_rings.proofs.Homomorphisms.{derivative-map}
 use Rattle.alg_rings.proofs.Divisors.{Polynomial, polynomial_ops, same_polynomial}
 use Rattle.alg_divisors.proofs.Euclidean
 use Rattle.alg_divisors.proofs.Euclidean.{EuclideanLaws}
 use Rattle.alg_divisors.proofs.Gcd
 use Rattle.alg_divisors.proofs.Gcd.{Coprime, Gcd}
-use Rattle.alg_divisors.proofs.EuclideanPolynomials.{polynomials_euclidean}
+use Rattle.alg_divisors.proofs.EuclideanPolynomials.{polynomials_euclidean, over_field}
 use Rattle.alg_divisors.proofs.PolynomialFactors.{divides_to, divides_from}
 use Rattle.alg_divisors.proofs.Finite.{IsFinite}
 use Rattle.alg_divisors.proofs.Existence.{irreducible_divisor_exists}
@@ -43,6 +43,7 @@ use Rattle.alg_finite.proofs.Orbits.{period_divides}
 use Rattle.alg_finite.proofs.RootExistence.{fixing_polynomial, length_fixing_polynomial, fixing_monic, evaluate_fixing, divides_fixing}
 use Rattle.alg_finite.proofs.Values
 use Rattle.alg_finite.proofs.FiniteValues.{values_finite, generator_returns, generator_period}
+use Rattle.alg_fields.proofs.ValueConstants.{constant_value_homomorphism}
 
 positive_suc : (j : ℕ) → 0 < suc j
 positive_suc j = omega arith
@@ -93,14 +94,8 @@ module _ {A : Type 0} {o : Ops A} (R : RingLaws o) where
 
 module _ {X : Type 0} {c : Carrier X} (P : IsPropositional c) (Fc : IsField c) {p m : ℕ}
     (K : FiniteField (element_ops Fc.ring) p m) where
-  abbrev Q : Ops (Polynomial c)
-  Q = polynomial_ops P Fc.ring
-
-  abbrev EU : EuclideanLaws (polynomial_ops P Fc.ring) (λ f. length f.0) (λ f. IsMonic c f.0)
-  EU = polynomials_euclidean P Fc
-
-  abbrev k : Ops (Element c)
-  k = element_ops Fc.ring
+  open over_field P Fc use {ops as Q, laws as EU}
+  open on_elements P Fc.ring use {ops as k}
 
   -- all elements stand in a list
   pub finite_carrier : IsFinite c
@@ -173,7 +168,7 @@ module _ {X : Type 0} {c : Carrier X} (P : IsPropositional c) (Fc : IsField c) {
         })
         j (Rings.same_from_difference L.ring (frobenius W (p ^ m) j x) x
         (sym (evaluate_fixing P Fc L.ring
-        (Values.constant_element_homomorphism P Fc f irreducible.not_constant monic irreducible)
+        (constant_value_homomorphism P Fc f irreducible.not_constant monic)
         ((p ^ m) ^ j) (above j l) x)
         ∙ Values.value_at_generator_element P Fc f irreducible.not_constant monic (N j l)
         ∙ Values.same_value P Fc f irreducible.not_constant monic _ _

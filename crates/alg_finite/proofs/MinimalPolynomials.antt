@@ -19,7 +19,7 @@ use Rattle.alg_rings.proofs.Homomorphisms.{Homomorphism}
 use Rattle.alg_rings.proofs.Divisors.{Polynomial, polynomial_ops, same_polynomial}
 use Rattle.alg_divisors.proofs.Euclidean
 use Rattle.alg_divisors.proofs.Euclidean.{EuclideanLaws}
-use Rattle.alg_divisors.proofs.EuclideanPolynomials.{polynomials_euclidean}
+use Rattle.alg_divisors.proofs.EuclideanPolynomials.{polynomials_euclidean, over_field}
 use Rattle.alg_divisors.proofs.PolynomialFactors.{divides_to, divides_from, irreducible_same}
 use Rattle.alg_rings.proofs.Evaluation
 use Rattle.alg_fields.proofs.Roots.{linear, linear_product, value_of_linear}
@@ -51,11 +51,7 @@ module _ {X : Type 0} {c : Carrier X} (P : IsPropositional c) (Fc : IsField c) {
     (K : FiniteField (element_ops Fc.ring) p m)
     {A : Type 0} {o : Ops A} {n : ℕ} (F : FiniteField o p n) {h : Element c → A}
     (H : Homomorphism (element_ops Fc.ring) o h) where
-  abbrev Q : Ops (Polynomial c)
-  Q = polynomial_ops P Fc.ring
-
-  abbrev EU : EuclideanLaws (polynomial_ops P Fc.ring) (λ f. length f.0) (λ f. IsMonic c f.0)
-  EU = polynomials_euclidean P Fc
+  open over_field P Fc use {ops as Q, laws as EU}
 
   -- a polynomial that isn't zero and vanishes at a has more coefficients than the orbit of a has
   -- members

@@ -17,7 +17,8 @@ use Rattle.alg_linear.specs.PrivateGrids.{total}
 use Rattle.alg_linear.proofs.Sums.{total_same, total_zero, total_add, total_scale, total_single, total_last, total_swap}
 use Rattle.alg_rings.proofs.Evaluation
 use Rattle.alg_fields.proofs.Roots.{linear, linear_product, value_of_linear}
-use Rattle.alg_finite.proofs.Enumerations.{Distinct, first_below}
+use Rattle.alg_finite.proofs.Enumerations.{Distinct}
+use Rattle.alg_rings.proofs.Decisions.{Least, search_below, fails_or_not}
 use Rattle.alg_finite.proofs.FiniteField.{frobenius, frobenius_none, frobenius_next, frobenius_last, frobenius_add}
 use Rattle.alg_finite.proofs.Orbits.{orbit, length_orbit, orbit_at, length_linear_product}
 use Rattle.alg_finite.proofs.MinimalPolynomials.{root_of_linear_product}
@@ -354,11 +355,11 @@ module _ {A : Type 0} {o : Ops A} (L : FieldLaws o) (q : ℕ)
     pub trace_parts_zero : Distinct (λ i. frobenius o q i x) e → 0 < e → a ≢ O
         → (k : ℕ) × (k < e) × (trace_of o q e (power o x k ⊗ a) ≢ O)
     trace_parts_zero d l n = ⊎_elim
-        (λ f. (f.0, f.1, f.2))
+        (λ (f : Least (λ k. trace_of o q e (power o x k ⊗ a) ≢ O) e). (f.number, f.below, f.holds))
         (λ none. absurd (traces_not_all_zero d l n
         (λ k r. ⊎_elim (λ s. s) (λ s. absurd (none k r s)) (zero_or_not k))))
-        (first_below (λ k. trace_of o q e (power o x k ⊗ a) ≢ O)
-        (λ k. ⊎_elim (λ s. inr (λ t. t s)) (λ s. inl s) (zero_or_not k)) e)
+        (search_below (λ k. trace_of o q e (power o x k ⊗ a) ≢ O) e
+        (λ k l. fails_or_not (zero_or_not k)))
       where
         zero_or_not : (k : ℕ) → (trace_of o q e (power o x k ⊗ a) ≡ O)
             ⊎ (trace_of o q e (power o x k ⊗ a) ≢ O)

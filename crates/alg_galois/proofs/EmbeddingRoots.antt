@@ -14,6 +14,7 @@ use Rattle.alg_model.specs.Factors.{IsPolynomial, order_by}
 use Rattle.alg_model.specs.Maps.{Field, IsFiniteField, field_values, degree_of, generator, constants, apply, comp, identity_map, powers, frobenius_map, IsEmbedding}
 use Rattle.alg_model.specs.Roots.{IsRoot, IsLeastRoot}
 use Rattle.alg_rings.proofs.Elements.{Element, underlying_injective}
+use Rattle.alg_rings.proofs.Decisions.{lists_equal_or_not}
 use Rattle.alg_rings.proofs.Homomorphisms.{power-map}
 use Rattle.alg_rings.proofs.PolynomialOrder.{order_by_total, order_by_same, nat_cmp_same}
 use Rattle.alg_finite.proofs.FiniteField.{frobenius, frobenius_none, frobenius_add}
@@ -25,15 +26,6 @@ use Rattle.alg_galois.proofs.FieldFrobenius
 use Rattle.alg_galois.proofs.Embeddings.{of_two_fields, identity_embedding, apply_identity, frobenius_embedding, apply_frobenius, apply_valid, embedding_injective, embedding_is_powers_of_image, embeddings_equal, generator_is_value, comp_embedding, apply_comp}
 
 -- ---- least roots
-lists_equal_or_not : (x y : List ℕ) → (x ≡ y) ⊎ (x ≢ y)
-lists_equal_or_not [] [] = inl refl
-lists_equal_or_not [] (b ∷ y) = inr (λ e. cc)
-lists_equal_or_not (a ∷ x) [] = inr (λ e. cc)
-lists_equal_or_not (a ∷ x) (b ∷ y) = ⊎_elim
-    (λ e. ⊎_elim (λ s. inl (ap₂ ◌∷◌ e s)) (λ n. inr (λ s. let t : x ≡ y = cc in n t))
-    (lists_equal_or_not x y))
-    (λ n. inr (λ s. let t : a ≡ b = cc in n t)) (cases_eq a b)
-
 -- **where there is a root, there is a least one**
 pub least_root_exists : (F : Field) → IsFiniteField F → (g : List (List ℕ)) (w : List ℕ)
     → IsRoot F g w → (v : List ℕ) × IsLeastRoot F g v
@@ -46,7 +38,7 @@ least_root_exists F W g w r =
     least_member (finite F.characteristic W.characteristic F.polynomial (modulus_of F W)).members
     (on_total (λ a. a.0) (order_by_total nat_cmp_total))
     (λ a. evaluate (field_values F).ops g a.0 ≡ (field_values F).ops.zero)
-    (λ a. lists_equal_or_not _ _) (w, r.0) r.1 in
+    (λ a. lists_equal_or_not cases_eq _ _) (w, r.0) r.1 in
     (a.0.0, record { root = (a.0.1, a.1); least = λ u s b. a.2 (u, s.0) s.1 b })
 
 -- and it is the only one

@@ -15,7 +15,7 @@ use Rattle.alg_rings.proofs.ResidueFields.{prime_residues_field, residues_propos
 use Rattle.alg_rings.proofs.Divisors.{Polynomial, polynomial_ops}
 use Rattle.alg_divisors.proofs.Euclidean
 use Rattle.alg_divisors.proofs.Euclidean.{EuclideanLaws}
-use Rattle.alg_divisors.proofs.EuclideanPolynomials.{polynomials_euclidean}
+use Rattle.alg_divisors.proofs.EuclideanPolynomials.{polynomials_euclidean, over_field}
 use Rattle.alg_divisors.proofs.PolynomialFactors.{divides_to}
 use Rattle.alg_finite.proofs.FiniteField.{FiniteField}
 use Rattle.alg_finite.proofs.FiniteValues.{residues_finite}
@@ -33,11 +33,7 @@ module _ {X Y : Type 0} {c : Carrier X} {d : Carrier Y} (P : IsPropositional c) 
     {h : Element c → Element d}
     (H : Homomorphism (element_ops Fc.ring) (element_ops R) h) (image : X → Y)
     (same : (x : Element c) → (h x).0 ≡ image x.0) (a : Element d) where
-  abbrev PO : Ops (Polynomial c)
-  PO = polynomial_ops P Fc.ring
-
-  abbrev EU : EuclideanLaws (polynomial_ops P Fc.ring) (λ f. length f.0) (λ f. IsMonic c f.0)
-  EU = polynomials_euclidean P Fc
+  open over_field P Fc use {laws as EU}
 
   abbrev O : Orbit (element_ops R) h (p ^ m) a
   O = orbit_of H K F a

@@ -20,6 +20,7 @@ use Rattle.alg_finite.proofs.FiniteField.{FiniteField}
 use Rattle.alg_finite.proofs.Evaluation.{coefficients, evaluate_by}
 use Rattle.alg_finite.proofs.Values
 use Rattle.alg_finite.proofs.FiniteValues.{residues_finite, values_finite}
+use Rattle.alg_fields.proofs.ValueConstants.{constant_value, constant_value_homomorphism}
 
 pub record IsModulus (p : ℕ) (f : List ℕ) : Type 0 where
   pub monic : IsMonic (residues p) f
@@ -115,15 +116,15 @@ module _ (p : ℕ) (h : IsPrime p) (f : List ℕ) (M : IsModulus p f) where
 
   -- ---- constants
   abbrev pub of_residue : Element (residues p) → Element (field_values (field_of p f))
-  of_residue = Values.constant_element (residues_propositional p)
+  of_residue = constant_value (residues_propositional p)
       (prime_residues_field p h) modulus M.irreducible.not_constant M.monic
 
   -- constants keep the operations
   abbrev pub of_residue_homomorphism : Homomorphism
       (element_ops (prime_residues_field p h).ring) ops of_residue
   of_residue_homomorphism =
-      Values.constant_element_homomorphism (residues_propositional p)
-      (prime_residues_field p h) modulus M.irreducible.not_constant M.monic M.irreducible
+      constant_value_homomorphism (residues_propositional p)
+      (prime_residues_field p h) modulus M.irreducible.not_constant M.monic
 
   -- the value of a polynomial over the prime field, as an element and as a list
   pub evaluate_constants : (g : Polynomial (residues p)) (a : Element (field_values (field_of p f)))

@@ -6,7 +6,7 @@ use Rattle.alg_lattices.specs.Lattices.{IsDecided, IsStoredPair}
 use Rattle.alg_lattices.specs.Filling.{IsSubfield, Insertion, filled}
 use Rattle.alg_lattices.specs.Filling.IsStoredAfter.{before, forced, beyond}
 use Rattle.alg_lattices.specs.Rules.{IsWay}
-use Rattle.alg_lattices.proofs.Decisions.{Least, search_below, divides_or_not}
+use Rattle.alg_rings.proofs.Decisions.{Least, search_below, divides_or_not}
 use Rattle.alg_lattices.proofs.ForcedMaps.{Setting}
 use Rattle.alg_lattices.proofs.ForcedMaps
 use Rattle.alg_lattices.proofs.StoredMaps

@@ -11,7 +11,7 @@ use Rattle.alg_lattices.specs.Filling.{IsCandidate, IsMember, IsClosureDegree, I
 use Rattle.alg_lattices.specs.Filling.IsMember.{of_source, of_target}
 use Rattle.alg_lattices.specs.Filling.IsClosureDegree.{of_member, of_gcd}
 use Rattle.alg_lattices.proofs.Congruences.{Bezout, bezout}
-use Rattle.alg_lattices.proofs.Decisions.{Least, search_below, divides_or_not, both_or_not}
+use Rattle.alg_rings.proofs.Decisions.{Least, search_below, divides_or_not, both_or_not}
 use Rattle.alg_lattices.proofs.RisingLists.{Listed, listed, rising_one}
 use Rattle.alg_lattices.proofs.Closure.{member_or_not}
 

@@ -14,17 +14,10 @@ use Rattle.alg_rings.proofs.Trims
 use Rattle.alg_rings.proofs.PolynomialLaws
 use Rattle.alg_rings.proofs.Homomorphisms
 use Rattle.alg_rings.proofs.Validity.{sum_valid, product_valid, trim_valid, negatives_valid, multiples_from_valid}
-use Rattle.alg_rings.proofs.Elements.{Element, underlying, element_ops, underlying_homomorphism, on_valid, on_valid₂, on_valid₃, underlying_lists_injective, element_laws, underlying_injective}
+use Rattle.alg_rings.proofs.Elements.{on_elements, Element, underlying, element_ops, underlying_homomorphism, on_valid, on_valid₂, on_valid₃, underlying_lists_injective, element_laws, underlying_injective}
 
 module _ {A : Type 0} {c : Carrier A} (P : IsPropositional c) (R : IsRing c) where
-  abbrev H : Homomorphisms.Homomorphism (element_ops R) c.ops (underlying c)
-  H = underlying_homomorphism R
-
-  abbrev E : Ops (Element c)
-  E = element_ops R
-
-  abbrev L : RingLaws (element_ops R)
-  L = element_laws P R
+  open on_elements P R use {ops as E, laws as L, value as H}
 
   pub trim_polynomial : (f : List A) → All c.Valid f → IsPolynomial c (trim c.ops f)
   trim_polynomial f vf = (

@@ -1,3 +1,4 @@
+pub mod Decisions
 pub mod Rings
 pub mod Lists
 pub mod Trims
