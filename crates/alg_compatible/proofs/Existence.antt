@@ -76,7 +76,7 @@ pub rows_exist : {L : Lattice} → IsRows L.edition L.rows → Compatible L → 
     → Theory.IsCandidate finite_fields (lattice_of L) E F phi
     → (rows : List Row) × AreRowsAfter L E F rows
 rows_exist {L} R C E F t phi c =
-    let (ds, a) = missing_list embedding_laws frobenius_laws (to_theory L R C) (lattice_decided L) c in
+    let (ds, a) = missing_list embedding_laws frobenius_laws (to_theory L R C) (lattice_decided L) E F in
     let r = added ds (from_list a) in (
       L.rows ++ r.rows,
       record {

@@ -7,10 +7,16 @@ ghost use Rattle.alg_compatible.specs.Theorems.{OpeningIsCompatible, DeclaringKe
 ghost use Rattle.alg_compatible.specs.Theorems.{FillingKeepsRows, FillingIsByRules, PlainEmbeddingExists, ChoiceExists};
 ghost use Rattle.alg_compatible.specs.Theorems.{ChoiceIsUnique, MissingDegreesExist, MissingDegreesAreUnique, AddedFieldsAreForced};
 ghost use Rattle.alg_compatible.specs.Theorems.{AddedMapsAreForced, StoredPairChangesNothing, OpeningIsDetermined, DeclaringIsDetermined};
-ghost use Rattle.alg_compatible.specs.Theorems.{FillingIsDetermined, FillingExists, OpeningExists, DeclaringExists};
+ghost use Rattle.alg_compatible.specs.Theorems.{FillingIsDetermined, FillingExists, OpeningExists, DeclaringExists, EditionsAreEditions};
 
-/// The prime fields with their identities are a compatible lattice, the one opening lattice of
-/// their edition.
+/// The two editions are editions: their characteristics are different primes, and there is room for
+/// their prime fields.
+pub fn editions_are_editions()
+    ensures both { EditionsAreEditions }
+{}
+
+/// The prime fields of an edition with their identities are a compatible lattice with rows of the
+/// edition, the one opening lattice of it.
 pub fn opening_is_compatible()
     ensures compatible { OpeningIsCompatible }
     ensures exists { OpeningExists }
@@ -43,7 +49,8 @@ pub fn plain_embedding_exists()
     ensures unique { ChoiceIsUnique }
 {}
 
-/// The degrees that a lattice lacks once a map is added: there is one list of them.
+/// The degrees that a lattice lacks below two fields: there is one list of them, whether or not the
+/// fields have a candidate.
 pub fn missing_degrees_are_determined()
     ensures exists { MissingDegreesExist }
     ensures unique { MissingDegreesAreUnique }
