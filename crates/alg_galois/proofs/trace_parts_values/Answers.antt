@@ -1,5 +1,5 @@
 use Rattle.alg_galois.proofs.FieldTraces.{prime_traces}
-use Rattle.alg_galois.proofs.SubfieldTraces.{subfield_traces, trace_of_trace_over, norm_of_norm_over}
+use Rattle.alg_galois.proofs.SubfieldTraces.{subfield_traces, towers_over_prime}
 use Rattle.alg_galois.proofs.trace_parts_values.Goals as goal
 
 pub returns-clause-constants : goal.returns-clause-constants
@@ -17,9 +17,9 @@ returns-clause-over c = λ E F V W m D. (subfield_traces E F V W m D).trace_part
 pub returns-clause-traces : goal.returns-clause-traces
 returns-clause-traces c = λ E F V W m D a va.
     let (b, e) = (subfield_traces E F V W m D).trace_is_image a va in
-    (b.0, b.1, e, trace_of_trace_over E F V W m D a b.0 va b.1 e)
+    (b.0, b.1, e, (towers_over_prime E F V W m D).traces a b.0 va b.1 e)
 
 pub returns-clause-norms : goal.returns-clause-norms
 returns-clause-norms c = λ E F V W m D a va.
     let (b, e) = (subfield_traces E F V W m D).norm_is_image a va in
-    (b.0, b.1, e, norm_of_norm_over E F V W m D a b.0 va b.1 e)
+    (b.0, b.1, e, (towers_over_prime E F V W m D).norms a b.0 va b.1 e)
