@@ -1,20 +1,21 @@
 -- Trace and norm of the fields of the model, over the prime field and over a subfield.
-use Rattle.std.proofs.Common.{◌≡◌, ◌≢◌, ℕ, zero, suc, ◌+◌, ◌*◌, ◌^◌, ◌<◌, List, ap, ap₂, sym, ◌∙◌, subst, arith, zero-mul}
+use Rattle.std.proofs.Common.{◌≡◌, ◌≢◌, ℕ, zero, suc, ◌+◌, ◌*◌, ◌^◌, ◌<◌, List, ap, ap₂, sym, ◌∙◌, subst, arith, zero-mul, [], ◌∷◌, refl}
 use Rattle.std.proofs.Math.Nat.{mul-lt-mul_of_pos_left, mul-zero}
 use Rattle.alg_model.specs.Coefficients.{Ops, power, residues, IsPrime}
 use Rattle.alg_model.specs.Conjugates.{conjugates, sum_all, product_all, trace, norm}
 use Rattle.alg_model.specs.Maps.{Field, IsFiniteField, field_values, degree_of, generator, constant}
-use Rattle.alg_rings.proofs.Elements.{Element, underlying_injective, underlying_homomorphism}
+use Rattle.alg_rings.proofs.Elements.{Element, underlying_injective, underlying_homomorphism, underlying}
 use Rattle.alg_finite.proofs.Enumerations.{Distinct}
 use Rattle.alg_finite.proofs.FiniteField.{frobenius, frobenius_of_power, pow_one, FiniteField}
 use Rattle.alg_finite.proofs.FiniteValues.{residues_finite}
 use Rattle.alg_finite.proofs.Orbits.{Period, orbit_distinct}
-use Rattle.alg_finite.proofs.Traces.{trace_of, norm_of, sums_same, product_same, sum_all_is, product_all_is, total-map, product-map}
+use Rattle.alg_finite.proofs.Traces.{trace_of, norm_of, list_fold}
 use Rattle.alg_finite.proofs.RelativeTraces
 use Rattle.alg_galois.proofs.Fields.{IsModulus, modulus_of, field_of, propositional, field_is, ops, laws, of_residue, of_residue_homomorphism, power_value, finite}
 use Rattle.alg_galois.proofs.FieldEmbeddings.{generator_element}
 use Rattle.alg_galois.proofs.FieldFrobenius.{generator_period}
 use Rattle.alg_rings.proofs.Homomorphisms.{Homomorphism}
+use Rattle.alg_rings.proofs.Folds.{fold, Keeps, sums_kept, products_kept, fold_same, fold-map}
 
 module _ (p : ℕ) (h : IsPrime p) (g : List ℕ) (N : IsModulus p g) where
   abbrev FO : Ops (Element (field_values (field_of p g)))
@@ -23,34 +24,39 @@ module _ (p : ℕ) (h : IsPrime p) (g : List ℕ) (N : IsModulus p g) where
   abbrev n : ℕ
   n = degree_of (field_of p g)
 
-  plus_nothing : (i : ℕ) → 0 + i ≡ i
-  plus_nothing i = omega arith
+  -- sums and products of conjugates, as elements and as lists: t is the sum of a list, or the product
+  conjugates_value : {v : Element (field_values (field_of p g))}
+      {w : Element (field_values (field_of p g)) → Element (field_values (field_of p g))
+      → Element (field_values (field_of p g))} {u : List ℕ} {m : List ℕ → List ℕ → List ℕ}
+      → Keeps (underlying (field_values (field_of p g))) v w u m
+      → (t : List (List ℕ) → List ℕ) → t [] ≡ u
+      → ((x : List ℕ) (xs : List (List ℕ)) → t (x ∷ xs) ≡ m x (t xs)) → (q e : ℕ)
+      (a : Element (field_values (field_of p g)))
+      → (fold v w e (λ i. frobenius (ops p h g N) q i a)).0
+      ≡ t (conjugates (field_values (field_of p g)).ops q e a.0)
+  conjugates_value {u = u} {m} K t none more q e a =
+      fold-map K e (λ i. frobenius FO q i a)
+      ∙ fold_same u m e _ _
+      (λ i l. power_value p h g N a (q ^ i)
+      ∙ ap (λ j. power (field_values (field_of p g)).ops a.0 (q ^ j)) (omega arith))
+      ∙ sym (list_fold u m t none more
+      (λ i. power (field_values (field_of p g)).ops a.0 (q ^ i)) 0 e)
 
-  -- sums and products of conjugates, as elements and as lists
+  -- the sum
   pub sum_value : (q e : ℕ) (a : Element (field_values (field_of p g)))
       → (trace_of (ops p h g N) q e a).0
       ≡ sum_all (field_values (field_of p g)).ops
       (conjugates (field_values (field_of p g)).ops q e a.0)
-  sum_value q e a =
-      total-map (underlying_homomorphism (field_is p h g N).ring) e (λ i. frobenius FO q i a)
-      ∙ sums_same (field_values (field_of p g)).ops e _ _
-      (λ i. power_value p h g N a (q ^ i)
-      ∙ ap (λ j. power (field_values (field_of p g)).ops a.0 (q ^ j)) (sym (plus_nothing i)))
-      ∙ sym (sum_all_is (field_values (field_of p g)).ops
-      (λ i. power (field_values (field_of p g)).ops a.0 (q ^ i)) 0 e)
+  sum_value = conjugates_value (sums_kept (underlying_homomorphism (field_is p h g N).ring))
+      (sum_all (field_values (field_of p g)).ops) refl (λ x xs. refl)
 
-  -- the product of conjugates, as an element and as a list
+  -- the product
   pub product_value : (q e : ℕ) (a : Element (field_values (field_of p g)))
       → (norm_of (ops p h g N) q e a).0
       ≡ product_all (field_values (field_of p g)).ops
       (conjugates (field_values (field_of p g)).ops q e a.0)
-  product_value q e a =
-      product-map (underlying_homomorphism (field_is p h g N).ring) e (λ i. frobenius FO q i a)
-      ∙ product_same (field_values (field_of p g)).ops e _ _
-      (λ i. power_value p h g N a (q ^ i)
-      ∙ ap (λ j. power (field_values (field_of p g)).ops a.0 (q ^ j)) (sym (plus_nothing i)))
-      ∙ sym (product_all_is (field_values (field_of p g)).ops
-      (λ i. power (field_values (field_of p g)).ops a.0 (q ^ i)) 0 e)
+  product_value = conjugates_value (products_kept (underlying_homomorphism (field_is p h g N).ring))
+      (product_all (field_values (field_of p g)).ops) refl (λ x xs. refl)
 
   -- ---- the generator has as many different conjugates as the degree
   generator_distinct : Distinct (λ i. frobenius (ops p h g N) p i (generator_element p h g N))

@@ -7,13 +7,14 @@ use Rattle.alg_model.specs.Coefficients.{Carrier}
 use Rattle.alg_model.specs.Fields.{IsRing}
 use Rattle.alg_model.specs.Matrices.{Matrix, column_at, entry, zero_column, unit_column, combination, matrix_product, identity_matrix, IsColumn, IsMatrix}
 use Rattle.alg_rings.proofs.Validity.{place_valid}
-use Rattle.alg_rings.proofs.Elements.{Element, element_ops}
+use Rattle.alg_rings.proofs.Elements.{Element, element_ops, underlying_homomorphism}
 use Rattle.alg_rings.proofs.ValidEntries.{columns_valid_at}
 use Rattle.alg_linear.specs.PrivateElimination.{grid}
 use Rattle.alg_linear.specs.PrivateGrids.{total}
 use Rattle.alg_linear.proofs.Sums.{total_same}
 use Rattle.alg_linear.specs.PrivateGrids.{delta, grid_apply}
 use Rattle.alg_linear.proofs.Columns.{AreLong, length_combination, combination_at, length_zero_column, zero_column_at, length_unit_column, unit_column_at, column_of_product, column_of_identity, length_identity, length_product}
+use Rattle.alg_rings.proofs.Folds.{sums_kept, fold-map}
 
 -- all columns of a matrix have its number of rows
 pub matrix_long : {A : Type 0} (c : Carrier A) (m : Matrix A) → IsMatrix c m → AreLong m.rows m.columns
@@ -36,8 +37,7 @@ module _ {A : Type 0} {c : Carrier A} (R : IsRing c) where
   matrix_of n m X = record { rows = n; columns = map (λ j. column_of n (λ i. X i j)) (range_with_len 0 m) }
 
   pub total_value : (n : ℕ) (f : ℕ → Element c) → (total (element_ops R) n f).0 ≡ total c.ops n (λ k. (f k).0)
-  total_value zero f = refl
-  total_value (suc n) f = ap (c.ops.add (f 0).0) (total_value n (λ k. f (suc k)))
+  total_value n f = fold-map (sums_kept (underlying_homomorphism R)) n f
 
   pub delta_value : (i j : ℕ) → (delta (element_ops R) i j).0 ≡ delta c.ops i j
   delta_value i j = at (i == j)

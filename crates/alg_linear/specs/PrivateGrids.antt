@@ -13,11 +13,11 @@
 --                                  column
 use Rattle.std.specs.Prelude.{◌≡◌, ◌≢◌, ◌⊎◌, ℕ, zero, suc, ◌+◌, ◌<◌, ◌≤◌, ◌==◌, cond, List, length, slice_index_or}
 use Rattle.alg_model.specs.Coefficients.{Ops}
+use Rattle.alg_rings.proofs.Folds.{fold}
 
 -- f 0 + .. + f (n - 1)
 abbrev pub total : {A : Type 0} → Ops A → ℕ → (ℕ → A) → A
-total o zero f = o.zero
-total o (suc n) f = o.add (f 0) (total o n (λ k. f (suc k)))
+total o n f = fold o.zero o.add n f
 
 -- one at i = j, else zero
 abbrev pub delta : {A : Type 0} → Ops A → ℕ → ℕ → A
