@@ -1,11 +1,11 @@
 -- The least factor of a polynomial over a carrier: there is at most one, it is irreducible, and it is the first of the
 -- factors in a factorization.
-use Rattle.std.proofs.Common.{◌≡◌, ℕ, ◌<◌, ◌≤◌, sym, refl, ap, ◌∙◌, subst, arith, List, length, map, get_or, Contains, Ordering, Less, Equal, Greater}
+use Rattle.std.proofs.Common.{◌≡◌, ◌<◌, ◌≤◌, sym, refl, ap, ◌∙◌, subst, arith, List, length, map, get_or, Contains, Ordering, Less, Equal, Greater}
 use Rattle.std.proofs.lemmas.List.{get_or-map, length-map}
 use Rattle.std.proofs.lemmas.List.Elements.{Contains-get_or}
 use Rattle.std.specs.Ordering.{ordering_reverse}
 use Rattle.std.specs.Cmp.{IsTotalOrder}
-use Rattle.alg_model.specs.Coefficients.{Ops, Carrier}
+use Rattle.alg_model.specs.Coefficients.{Carrier}
 use Rattle.alg_model.specs.Factors.{IsMonic, IsIrreducible, IsLeastFactor, order_by}
 use Rattle.alg_model.specs.Fields.{IsField}
 use Rattle.alg_rings.specs.Laws.{IsPropositional}

@@ -5,7 +5,7 @@ use Rattle.std.proofs.lemmas.List.{length-map, get_or-map}
 use Rattle.std.proofs.lemmas.List.Elements.{All-map, Contains-get_or}
 use Rattle.alg_divisors.proofs.LeastFactors.{contains_from_map}
 use Rattle.alg_rings.proofs.Powers
-use Rattle.alg_model.specs.Coefficients.{Ops, Carrier, times, power}
+use Rattle.alg_model.specs.Coefficients.{Carrier, times, power}
 use Rattle.alg_model.specs.Polynomials.{derivative, poly_product, poly_difference, poly_power}
 use Rattle.alg_model.specs.Factors.{IsPolynomial, IsMonic, Divides, IsGreatestCommonDivisor, IsProperFactor, IsIrreducible}
 use Rattle.alg_model.specs.Fields.{IsField}
@@ -20,7 +20,7 @@ use Rattle.alg_divisors.proofs.Euclidean
 use Rattle.alg_divisors.proofs.Gcd
 use Rattle.alg_divisors.proofs.Irreducible
 use Rattle.alg_divisors.proofs.Factorization
-use Rattle.alg_divisors.proofs.EuclideanPolynomials.{polynomials_euclidean, over_field}
+use Rattle.alg_divisors.proofs.EuclideanPolynomials.{over_field}
 use Rattle.alg_divisors.proofs.PolynomialFactors.{divides_to, divides_from, combination_to, combination_from, proper_to, irreducible_to, irreducible_from, gcd_to, gcd_unique, product_of-map}
 use Rattle.alg_fields.specs.Fixed.{IsFixed, less_constant, IsCertified}
 use Rattle.alg_rings.proofs.Modulo

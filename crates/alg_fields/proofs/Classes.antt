@@ -2,18 +2,18 @@
 use Rattle.std.proofs.Common.{◌≡◌, ℕ, ◌<◌, List, map, length, replicate, All, ap, ap₂, sym, ◌∙◌, subst, arith}
 use Rattle.std.proofs.lemmas.List.{length-map, ext_get_or}
 use Rattle.std.proofs.lemmas.List.Elements.{All-replicate}
-use Rattle.alg_model.specs.Coefficients.{Ops, Carrier}
+use Rattle.alg_model.specs.Coefficients.{Carrier}
 use Rattle.alg_model.specs.Polynomials.{sum, product, trim, poly_sum, poly_product, poly_negative, leading}
 use Rattle.alg_model.specs.Factors.{IsMonic}
 use Rattle.alg_model.specs.Values.{padded, remainder}
 use Rattle.alg_model.specs.Fields.{IsRing}
-use Rattle.alg_rings.specs.Laws.{RingLaws, IsPropositional}
+use Rattle.alg_rings.specs.Laws.{IsPropositional}
 use Rattle.alg_rings.proofs.Trims
 use Rattle.alg_rings.proofs.PolynomialLaws
-use Rattle.alg_rings.proofs.Homomorphisms.{Homomorphism, sum-map, product-map, trim-map, negatives-map, poly_sum-map, poly_product-map, leading-map}
-use Rattle.alg_rings.proofs.Elements.{Element, underlying, element_ops, underlying_homomorphism, underlying_injective, on_valid, on_valid₂, underlying_valid, underlying_lists_injective, element_laws, on_elements}
+use Rattle.alg_rings.proofs.Homomorphisms.{sum-map, product-map, trim-map, negatives-map, poly_sum-map, poly_product-map, leading-map}
+use Rattle.alg_rings.proofs.Elements.{Element, underlying, underlying_injective, on_valid, on_valid₂, underlying_valid, underlying_lists_injective, on_elements}
 use Rattle.alg_rings.proofs.CarrierPolynomials.{trim_polynomial}
-use Rattle.alg_rings.proofs.Divisors.{Polynomial, polynomial_ops, same_polynomial, on_polynomials}
+use Rattle.alg_rings.proofs.Divisors.{Polynomial, same_polynomial, on_polynomials}
 use Rattle.alg_rings.proofs.Modulo.{Same}
 use Rattle.alg_fields.proofs.ListRemainders.{quotient_by, zeros_at, remainder_identity, trim_padded}
 use Rattle.alg_fields.proofs.ValueMaps.{remainder-map, quotient_by-map, padded-map, zeros-map}

@@ -1,12 +1,12 @@
 -- The derivative on the polynomials over a carrier, and powers p in characteristic p: what has derivative zero is a power p,
 -- where each element has a root p.
 use Rattle.std.proofs.Common.{◌≡◌, ℕ, ◌<◌, List, [], ◌∷◌, map, refl, ap, ap₂, sym, ◌∙◌, arith}
-use Rattle.alg_model.specs.Coefficients.{Ops, Carrier, times, power}
+use Rattle.alg_model.specs.Coefficients.{Carrier, times, power}
 use Rattle.alg_model.specs.Polynomials.{poly_sum, poly_product, derivative, evaluate}
 use Rattle.alg_model.specs.Fields.{IsRing}
-use Rattle.alg_rings.specs.Laws.{RingLaws, IsPropositional}
-use Rattle.alg_rings.proofs.Homomorphisms.{Homomorphism, poly_sum-map, poly_product-map, derivative-map}
-use Rattle.alg_rings.proofs.Elements.{Element, underlying, element_ops, underlying_homomorphism, on_valid₂, element_laws, elements, elements_are, on_elements}
+use Rattle.alg_rings.specs.Laws.{IsPropositional}
+use Rattle.alg_rings.proofs.Homomorphisms.{poly_sum-map, poly_product-map, derivative-map}
+use Rattle.alg_rings.proofs.Elements.{Element, underlying, element_ops, on_valid₂, elements, elements_are, on_elements}
 use Rattle.alg_rings.proofs.CarrierPolynomials.{derivative_polynomial}
 use Rattle.alg_rings.proofs.Divisors.{Polynomial, polynomial_ops, polynomial_laws, same_polynomial, on_polynomials}
 use Rattle.alg_fields.proofs.Derivatives

@@ -6,9 +6,9 @@ use Rattle.alg_model.specs.Fields.{IsRing}
 use Rattle.alg_rings.specs.Laws.{RingLaws, IsPropositional}
 use Rattle.alg_rings.proofs.Lists
 use Rattle.alg_rings.proofs.Trims
-use Rattle.alg_rings.proofs.Homomorphisms.{Homomorphism, trim-map, poly_sum-map, poly_product-map}
-use Rattle.alg_rings.proofs.Elements.{Element, underlying, element_ops, underlying_homomorphism, element_laws, underlying_valid, elements, elements_are, on_elements}
-use Rattle.alg_rings.proofs.Divisors.{Polynomial, polynomial_ops, same_polynomial, on_polynomials}
+use Rattle.alg_rings.proofs.Homomorphisms.{trim-map, poly_sum-map, poly_product-map}
+use Rattle.alg_rings.proofs.Elements.{Element, underlying, underlying_valid, elements, elements_are, on_elements}
+use Rattle.alg_rings.proofs.Divisors.{Polynomial, same_polynomial, on_polynomials}
 use Rattle.alg_fields.proofs.Classes.{class_of}
 use Rattle.alg_fields.proofs.Constants.{constant}
 

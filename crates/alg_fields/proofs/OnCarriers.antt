@@ -1,15 +1,15 @@
 -- From the theory to carriers: powers p, roots and derivatives on valid elements and lists.
 use Rattle.std.proofs.Common.{◌%◌, ◌≡◌, ◌≢◌, ◌↔◌, ℕ, ◌<◌, List, [], map, length, slice_index_or, All, AllPairs, ap, ap₂, sym, ◌∙◌, arith}
 use Rattle.std.proofs.lemmas.List.{length-map, get_or-map}
-use Rattle.alg_model.specs.Coefficients.{Ops, Carrier, times, power}
+use Rattle.alg_model.specs.Coefficients.{Carrier, times, power}
 use Rattle.alg_model.specs.Polynomials.{trim, poly_product, evaluate, derivative}
 use Rattle.alg_model.specs.Factors.{IsPolynomial, Divides}
 use Rattle.alg_model.specs.Fields.{IsRing, IsField}
-use Rattle.alg_rings.specs.Laws.{RingLaws, IsPropositional}
+use Rattle.alg_rings.specs.Laws.{IsPropositional}
 use Rattle.alg_rings.proofs.Trims
 use Rattle.alg_rings.proofs.Division.{zero_from_product}
-use Rattle.alg_rings.proofs.Homomorphisms.{Homomorphism, times-map, power-map, evaluate-map, trim-map, derivative-map, place-map, poly_product-map}
-use Rattle.alg_rings.proofs.Elements.{Element, underlying, element_ops, underlying_homomorphism, underlying_injective, underlying_lists_injective, underlying_valid, on_valid, on_valid₂, element_laws, element_field, on_elements}
+use Rattle.alg_rings.proofs.Homomorphisms.{times-map, power-map, evaluate-map, trim-map, derivative-map, place-map, poly_product-map}
+use Rattle.alg_rings.proofs.Elements.{Element, underlying, element_ops, underlying_injective, underlying_lists_injective, underlying_valid, on_valid, on_valid₂, element_laws, element_field, on_elements}
 use Rattle.alg_rings.proofs.CarrierPolynomials.{trimmed_elements}
 use Rattle.alg_rings.proofs.Powers
 use Rattle.alg_fields.proofs.Frobenius

@@ -1,7 +1,7 @@
 -- Taking remainders modulo a monic f over a field: it is division by f, keeps sums, products and powers, and two polynomials
 -- have one remainder exactly if f divides their difference.
 use Rattle.std.proofs.Common.{◌≡◌, ◌↔◌, ℕ, zero, suc, ◌<◌, List, [], ◌∷◌, length, replicate, All, ap, sym, subst, ◌∙◌, arith}
-use Rattle.alg_model.specs.Coefficients.{Ops, Carrier, power}
+use Rattle.alg_model.specs.Coefficients.{Carrier, power}
 use Rattle.alg_model.specs.Polynomials.{sum, product, trim, poly_sum, poly_product, poly_difference, poly_power}
 use Rattle.alg_model.specs.Factors.{IsMonic, IsDivision, Divides}
 use Rattle.alg_model.specs.Values.{degree, remainder, value_ops, values}
@@ -11,8 +11,7 @@ use Rattle.alg_rings.proofs.Trims
 use Rattle.alg_rings.proofs.Validity.{product_valid}
 use Rattle.alg_rings.proofs.CarrierPolynomials.{poly_power_polynomial}
 use Rattle.alg_rings.proofs.Divisors.{Polynomial, polynomial_ops, same_polynomial}
-use Rattle.alg_divisors.proofs.Euclidean
-use Rattle.alg_divisors.proofs.EuclideanPolynomials.{polynomials_euclidean, over_field}
+use Rattle.alg_divisors.proofs.EuclideanPolynomials.{over_field}
 use Rattle.alg_divisors.proofs.PolynomialFactors.{divides_to, divides_from}
 use Rattle.alg_rings.proofs.Modulo
 use Rattle.alg_rings.proofs.Modulo.{Same}

@@ -7,7 +7,7 @@ use Rattle.std.proofs.lemmas.List.Elements.{All-nil, All-cons, All-append, All-r
 use Rattle.std.specs.List.{list_all}
 use native.Mathlib.Nat.{ℕ_set}
 use mathlib.Core.List.{is_set}
-use Rattle.alg_model.specs.Coefficients.{Ops, Carrier}
+use Rattle.alg_model.specs.Coefficients.{Carrier}
 use Rattle.alg_model.specs.Polynomials.{product, trim}
 use Rattle.alg_model.specs.Factors.{IsMonic, IsIrreducible}
 use Rattle.alg_model.specs.Values.{degree, remainder, values}
@@ -17,10 +17,10 @@ use Rattle.alg_rings.proofs.Rings
 use Rattle.alg_rings.proofs.Lists
 use Rattle.alg_rings.proofs.Trims
 use Rattle.alg_rings.proofs.Validity.{sum_valid, product_valid, negatives_valid}
-use Rattle.alg_rings.proofs.Divisors.{Polynomial, polynomial_ops, same_polynomial}
+use Rattle.alg_rings.proofs.Divisors.{Polynomial, same_polynomial}
 use Rattle.alg_divisors.proofs.Euclidean
 use Rattle.alg_divisors.proofs.Irreducible
-use Rattle.alg_divisors.proofs.EuclideanPolynomials.{polynomials_euclidean, over_field}
+use Rattle.alg_divisors.proofs.EuclideanPolynomials.{over_field}
 use Rattle.alg_divisors.proofs.PolynomialFactors.{irreducible_from}
 use Rattle.alg_rings.proofs.Modulo
 use Rattle.alg_rings.proofs.Modulo.{Same}

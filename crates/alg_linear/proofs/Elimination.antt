@@ -11,8 +11,8 @@ use Rattle.alg_model.specs.Coefficients.{Ops, Carrier}
 use Rattle.alg_model.specs.Polynomials.{sum, scale}
 use Rattle.alg_model.specs.Fields.{IsRing}
 use Rattle.alg_model.specs.Matrices.{IsColumn}
-use Rattle.alg_rings.specs.Laws.{IsPropositional, RingLaws}
-use Rattle.alg_rings.proofs.Elements.{Element, element_ops, element_laws, underlying_injective, on_elements}
+use Rattle.alg_rings.specs.Laws.{IsPropositional}
+use Rattle.alg_rings.proofs.Elements.{Element, underlying_injective, on_elements}
 use Rattle.alg_linear.specs.PrivateGrids.{RowEquivalent}
 use Rattle.alg_linear.proofs.RowOperations.{equivalent_itself, equivalent_then, equivalent_swapped, equivalent_scaled, equivalent_added, swap_rows, scale_row, add_row, swapped, swapped_first, swapped_to_first, swapped_other, swapped_below}
 use Rattle.alg_linear.specs.PrivateGrids.{IsReducedTo}

@@ -2,7 +2,7 @@
 use Rattle.std.proofs.Common.{◌≡◌, ◌≢◌, ℕ, zero, suc, ◌<◌, refl, ap, ap₂, sym, ◌∙◌, arith}
 use Rattle.alg_model.specs.Coefficients.{Ops}
 use Rattle.alg_rings.specs.Laws.{RingLaws}
-use Rattle.alg_rings.proofs.Rings.{add_zero, add_swap, mul_zero, neg_zero, neg_sum}
+use Rattle.alg_rings.proofs.Rings.{add_zero, mul_zero, neg_zero, neg_sum}
 use Rattle.alg_linear.specs.PrivateGrids.{total}
 use Rattle.alg_rings.proofs.Folds.{sums, fold_same, fold_unit, fold_both, fold_swap, fold_last}
 

@@ -11,7 +11,7 @@
 --     AreFree m pivots free            the columns below m that are no pivots, rising
 --     AreKernelColumns o pivots free E v     the columns of the kernel of E, one for each free
 --                                  column
-use Rattle.std.specs.Prelude.{◌≡◌, ◌≢◌, ◌⊎◌, ℕ, zero, suc, ◌+◌, ◌<◌, ◌≤◌, ◌==◌, cond, List, length, slice_index_or}
+use Rattle.std.specs.Prelude.{◌≡◌, ◌≢◌, ◌⊎◌, ℕ, ◌+◌, ◌<◌, ◌≤◌, ◌==◌, cond, List, length, slice_index_or}
 use Rattle.alg_model.specs.Coefficients.{Ops}
 use Rattle.alg_rings.proofs.Folds.{fold}
 
