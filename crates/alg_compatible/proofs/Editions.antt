@@ -1,6 +1,6 @@
 -- The two editions are editions, and the rows of an opening lattice are rows of its edition.
-use Rattle.std.proofs.Common.{◌≡◌, ◌≢◌, ℕ, ◌+◌, ◌-◌, ◌^◌, min, ◌<◌, ◌≤◌, List, ◌++◌, length, take, map, All, AllPairs, get_or, slice_index, slice_index_or, codes, decimal, refl, sym, ap, ◌∙◌, subst, inl, arith, rules, length-take, get_or-take}
-use Rattle.std.specs.List.{AllByRecursion, range_with_len}
+use Rattle.std.proofs.Common.{◌≡◌, ◌≢◌, ℕ, ◌+◌, ◌-◌, ◌^◌, min, ◌<◌, ◌≤◌, List, length, take, map, All, AllPairs, get_or, slice_index, decimal, sym, ap, ◌∙◌, subst, inl, arith, rules, length-take, get_or-take}
+use Rattle.std.specs.List.{range_with_len}
 use Rattle.std.specs.List.Sorted.{IsStrictlyIncreasing}
 use Rattle.std.proofs.lemmas.List.{get_or-map, get_or_default, length-map}
 use Rattle.std.proofs.lemmas.List.Elements.{All-from_recursion, All-take}

@@ -3,11 +3,16 @@
 //! nothing.
 #![tactic(auto)]
 
-ghost use Rattle.alg_compatible.specs.Theorems.{OpeningIsCompatible, DeclaringKeepsCompatible, DeclaringKeepsRows, FillingKeepsCompatible};
-ghost use Rattle.alg_compatible.specs.Theorems.{FillingKeepsRows, FillingIsByRules, PlainEmbeddingExists, ChoiceExists};
-ghost use Rattle.alg_compatible.specs.Theorems.{ChoiceIsUnique, MissingDegreesExist, MissingDegreesAreUnique, AddedFieldsAreForced};
-ghost use Rattle.alg_compatible.specs.Theorems.{AddedMapsAreForced, StoredPairChangesNothing, OpeningIsDetermined, DeclaringIsDetermined};
-ghost use Rattle.alg_compatible.specs.Theorems.{FillingIsDetermined, FillingExists, OpeningExists, DeclaringExists, EditionsAreEditions};
+ghost use Rattle.alg_compatible.specs.Theorems.{OpeningIsCompatible, DeclaringKeepsCompatible};
+ghost use Rattle.alg_compatible.specs.Theorems.{DeclaringKeepsRows, FillingKeepsCompatible};
+ghost use Rattle.alg_compatible.specs.Theorems.{FillingKeepsRows, FillingIsByRules};
+ghost use Rattle.alg_compatible.specs.Theorems.{PlainEmbeddingExists, ChoiceExists, ChoiceIsUnique};
+ghost use Rattle.alg_compatible.specs.Theorems.{MissingDegreesExist, MissingDegreesAreUnique};
+ghost use Rattle.alg_compatible.specs.Theorems.{AddedFieldsAreForced, AddedMapsAreForced};
+ghost use Rattle.alg_compatible.specs.Theorems.{StoredPairChangesNothing, OpeningIsDetermined};
+ghost use Rattle.alg_compatible.specs.Theorems.{DeclaringIsDetermined, FillingIsDetermined};
+ghost use Rattle.alg_compatible.specs.Theorems.{FillingExists, OpeningExists, DeclaringExists};
+ghost use Rattle.alg_compatible.specs.Theorems.{EditionsAreEditions};
 
 /// The two editions are editions: their characteristics are different primes, and there is room for
 /// their prime fields.

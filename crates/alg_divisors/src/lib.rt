@@ -2,9 +2,12 @@
 //! laws on the polynomials modulo a prime p. The lemmas hold over any field.
 #![tactic(auto)]
 
-ghost use Rattle.alg_divisors.specs.Theorems.{GcdExists, GcdIsUnique, GcdIsCombination, FactorizationExists, FactorizationIsUnique};
-ghost use Rattle.alg_divisors.specs.Theorems.{LeastFactorExists, LeastFactorIsUnique, LeastFactorIsIrreducible, FirstOfFactorsIsLeast};
-ghost use Rattle.alg_divisors.specs.Theorems.{GcdExistsOverFields, GcdIsUniqueOverFields, FactorizationIsUniqueOverFields};
+ghost use Rattle.alg_divisors.specs.Theorems.{GcdExists, GcdIsUnique, GcdIsCombination};
+ghost use Rattle.alg_divisors.specs.Theorems.{FactorizationExists, FactorizationIsUnique};
+ghost use Rattle.alg_divisors.specs.Theorems.{LeastFactorExists, LeastFactorIsUnique};
+ghost use Rattle.alg_divisors.specs.Theorems.{LeastFactorIsIrreducible, FirstOfFactorsIsLeast};
+ghost use Rattle.alg_divisors.specs.Theorems.{GcdExistsOverFields, GcdIsUniqueOverFields};
+ghost use Rattle.alg_divisors.specs.Theorems.{FactorizationIsUniqueOverFields};
 
 /// Two polynomials have a greatest common divisor, it is the only one, and it is a combination of
 /// the two (Bezout).

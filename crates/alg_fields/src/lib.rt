@@ -3,12 +3,17 @@
 //! them. The lemmas hold over any field.
 #![tactic(auto)]
 
-ghost use Rattle.alg_fields.specs.Theorems.{RootsAreFew, RootsAmongValuesAreFew, RootIffLinearFactor, FrobeniusKeepsSums};
-ghost use Rattle.alg_fields.specs.Theorems.{FrobeniusKeepsProducts, ResiduesAreFixed, ValuesAreAField, ValuesOverValuesAreAField};
-ghost use Rattle.alg_fields.specs.Theorems.{RemainderIsOfDivision, RemainderFillsPlaces, RemainderKeepsPowers, DerivativeZeroByPlaces};
-ghost use Rattle.alg_fields.specs.Theorems.{DerivativeZeroByPower, SquareFactorDividesDerivative, FixedPolynomialSplits, CoprimeFactorsGiveFixed};
-ghost use Rattle.alg_fields.specs.Theorems.{CertifiedIsIrreducible, IrreducibleIsCertified, ProductIsRemainder};
-ghost use Rattle.alg_fields.specs.Theorems.{ValuesOverFieldsAreAField, RootsOverFieldsAreFew};
+ghost use Rattle.alg_fields.specs.Theorems.{RootsAreFew, RootsAmongValuesAreFew};
+ghost use Rattle.alg_fields.specs.Theorems.{RootIffLinearFactor, FrobeniusKeepsSums};
+ghost use Rattle.alg_fields.specs.Theorems.{FrobeniusKeepsProducts, ResiduesAreFixed};
+ghost use Rattle.alg_fields.specs.Theorems.{ValuesAreAField, ValuesOverValuesAreAField};
+ghost use Rattle.alg_fields.specs.Theorems.{RemainderIsOfDivision, RemainderFillsPlaces};
+ghost use Rattle.alg_fields.specs.Theorems.{RemainderKeepsPowers, DerivativeZeroByPlaces};
+ghost use Rattle.alg_fields.specs.Theorems.{DerivativeZeroByPower, SquareFactorDividesDerivative};
+ghost use Rattle.alg_fields.specs.Theorems.{FixedPolynomialSplits, CoprimeFactorsGiveFixed};
+ghost use Rattle.alg_fields.specs.Theorems.{CertifiedIsIrreducible, IrreducibleIsCertified};
+ghost use Rattle.alg_fields.specs.Theorems.{ProductIsRemainder, ValuesOverFieldsAreAField};
+ghost use Rattle.alg_fields.specs.Theorems.{RootsOverFieldsAreFew};
 
 /// A polynomial that isn't zero has fewer distinct roots than coefficients; a is a root exactly if
 /// x - a divides it.

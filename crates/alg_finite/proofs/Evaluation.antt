@@ -9,9 +9,9 @@ use Rattle.alg_model.specs.Polynomials.{evaluate, leading, poly_sum, poly_produc
 use Rattle.alg_model.specs.Fields.{IsRing}
 use Rattle.alg_rings.specs.Laws.{RingLaws, IsPropositional}
 use Rattle.alg_rings.proofs.Trims
-use Rattle.alg_rings.proofs.Elements.{Element, underlying, element_ops, element_laws, underlying_lists_injective, elements, elements_are, underlying_valid, underlying_homomorphism, on_elements}
+use Rattle.alg_rings.proofs.Elements.{Element, underlying, element_ops, element_laws, underlying_lists_injective, elements, elements_are, underlying_valid, on_elements}
 use Rattle.alg_rings.proofs.Homomorphisms.{Homomorphism, trim-map, poly_sum-map, poly_product-map, leading-map}
-use Rattle.alg_rings.proofs.Divisors.{Polynomial, polynomial_ops, on_polynomials}
+use Rattle.alg_rings.proofs.Divisors.{Polynomial, on_polynomials}
 use Rattle.alg_rings.proofs.Evaluation
 
 -- the coefficients with their validity

@@ -1,5 +1,5 @@
 -- Maps between fields that keep one, sums and products keep every operation, and are injective.
-use Rattle.std.proofs.Common.{◌≡◌, ◌≢◌, ◌⊎◌, ⊎_elim, inl, inr, ap, ap₂, sym, ◌∙◌}
+use Rattle.std.proofs.Common.{◌≡◌, ◌≢◌, ⊎_elim, ap, ap₂, sym, ◌∙◌}
 use Rattle.alg_model.specs.Coefficients.{Ops}
 use Rattle.alg_rings.specs.Laws.{RingLaws, FieldLaws}
 use Rattle.alg_rings.proofs.Rings

@@ -27,7 +27,7 @@ use Rattle.alg_divisors.proofs.Euclidean
 use Rattle.alg_divisors.proofs.Euclidean.{EuclideanLaws}
 use Rattle.alg_divisors.proofs.Gcd
 use Rattle.alg_divisors.proofs.Gcd.{Coprime, Gcd}
-use Rattle.alg_divisors.proofs.EuclideanPolynomials.{polynomials_euclidean, over_field}
+use Rattle.alg_divisors.proofs.EuclideanPolynomials.{over_field}
 use Rattle.alg_divisors.proofs.PolynomialFactors.{divides_to, divides_from}
 use Rattle.alg_divisors.proofs.Finite.{IsFinite}
 use Rattle.alg_divisors.proofs.Existence.{irreducible_divisor_exists}

@@ -1,6 +1,6 @@
 -- A monic irreducible polynomial of degree d over a field with q members has a root in a field
 -- with q^e members exactly if d divides e.
-use Rattle.std.proofs.Common.{◌≡◌, ◌≢◌, ◌⊎◌, ⊎_elim, inl, inr, ℕ, zero, suc, ◌*◌, ◌%◌, ◌^◌, ◌<◌, [], ◌∷◌, length, map, refl, ap, ap₂, sym, ◌∙◌, arith}
+use Rattle.std.proofs.Common.{◌≡◌, ◌≢◌, ◌⊎◌, ⊎_elim, ℕ, zero, suc, ◌*◌, ◌%◌, ◌^◌, ◌<◌, [], ◌∷◌, length, map, refl, ap, ap₂, sym, ◌∙◌, arith}
 use Rattle.std.proofs.lemmas.List.{length-map}
 use Rattle.alg_rings.proofs.Divisibility
 use Rattle.alg_model.specs.Coefficients.{Ops, Carrier, power}
@@ -18,7 +18,7 @@ use Rattle.alg_rings.proofs.Homomorphisms.{Homomorphism, sum-map, leading-map}
 use Rattle.alg_rings.proofs.Divisors.{Polynomial, polynomial_ops, same_polynomial}
 use Rattle.alg_divisors.proofs.Euclidean
 use Rattle.alg_divisors.proofs.Euclidean.{EuclideanLaws}
-use Rattle.alg_divisors.proofs.EuclideanPolynomials.{polynomials_euclidean, over_field}
+use Rattle.alg_divisors.proofs.EuclideanPolynomials.{over_field}
 use Rattle.alg_divisors.proofs.PolynomialFactors.{divides_from}
 use Rattle.alg_fields.proofs.Remainders.{divides_iff_remainder_zero}
 use Rattle.alg_fields.proofs.FermatProduct.{fixing, length_fixing, leading_fixing, value_of_fixing}

@@ -1,9 +1,7 @@
 -- The values over a field c modulo an irreducible polynomial, as a quotient of the polynomials
 -- over c: remainders, constants
 -- and the generator.
-use Rattle.std.proofs.Common.{◌≡◌, ◌-◌, ◌<◌, List, [], ◌∷◌, length, map, refl, ap, ap₂, sym, ◌∙◌, arith, All}
-use Rattle.std.proofs.lemmas.List.{length-replicate}
-use Rattle.std.proofs.lemmas.List.Elements.{All-append, All-replicate}
+use Rattle.std.proofs.Common.{◌≡◌, ◌<◌, List, [], ◌∷◌, length, map, refl, ap, ap₂, sym, ◌∙◌, All}
 use Rattle.alg_model.specs.Coefficients.{Ops, Carrier}
 use Rattle.alg_model.specs.Polynomials.{evaluate, trim, scale, product}
 use Rattle.alg_model.specs.Factors.{IsMonic, IsIrreducible}
@@ -11,17 +9,15 @@ use Rattle.alg_model.specs.Values.{degree, padded, remainder, values}
 use Rattle.alg_model.specs.Fields.{IsField}
 use Rattle.alg_rings.specs.Laws.{IsPropositional, FieldLaws}
 use Rattle.alg_rings.proofs.Elements.{Element, underlying, element_ops, element_field, underlying_injective, elements, elements_are, underlying_valid}
-use Rattle.alg_rings.proofs.Homomorphisms.{Homomorphism}
 use Rattle.alg_rings.proofs.Divisors.{Polynomial, polynomial_ops, divides_itself}
 use Rattle.alg_rings.proofs.Lists
 use Rattle.alg_rings.proofs.Validity.{scale_valid, product_valid}
 use Rattle.alg_fields.proofs.Classes
 use Rattle.alg_fields.proofs.Classes.{class_of}
-use Rattle.alg_fields.proofs.Constants.{constant, alone, constant_homomorphism}
+use Rattle.alg_fields.proofs.Constants.{constant, alone}
 use Rattle.alg_fields.proofs.Generator
 use Rattle.alg_fields.proofs.Remainders
 use Rattle.alg_fields.proofs.ValueFields.{polynomial_of, values_propositional, values_ring, values_field}
-use Rattle.alg_finite.proofs.FieldMaps.{field_homomorphism}
 use Rattle.alg_fields.proofs.ValueConstants.{constant_value, constant_valid}
 
 -- a map that keeps zero, sums and products keeps the values of polynomials

@@ -1,21 +1,21 @@
 -- Minimal polynomials of the values of the model's fields, over the prime field and over a
 -- subfield: they exist, are the only
 -- ones, are irreducible, and divide whatever vanishes there.
-use Rattle.std.proofs.Common.{◌≡◌, ℕ, ◌^◌, List, length, map, refl, ap, sym, ◌∙◌, subst, arith}
-use Rattle.alg_model.specs.Coefficients.{Ops, Carrier, residues}
+use Rattle.std.proofs.Common.{◌≡◌, ℕ, ◌^◌, List, map, refl, ap, sym, ◌∙◌, subst, arith}
+use Rattle.alg_model.specs.Coefficients.{Carrier, residues}
 use Rattle.alg_model.specs.Polynomials.{evaluate}
 use Rattle.alg_model.specs.Factors.{IsPolynomial, IsMonic, IsIrreducible, Divides}
 use Rattle.alg_model.specs.Fields.{IsRing, IsField}
-use Rattle.alg_model.specs.Maps.{Field, IsFiniteField, field_values, constants, constant, apply, IsEmbedding}
-use Rattle.alg_model.specs.Roots.{IsMinimalPolynomial, IsMinimal, IsMinimalOver}
+use Rattle.alg_model.specs.Maps.{Field, IsFiniteField, field_values, constant, apply, IsEmbedding}
+use Rattle.alg_model.specs.Roots.{IsMinimalPolynomial}
 use Rattle.alg_rings.specs.Laws.{IsPropositional}
 use Rattle.alg_rings.proofs.Elements.{Element, element_ops, underlying_injective}
 use Rattle.alg_rings.proofs.Homomorphisms.{Homomorphism}
 use Rattle.alg_rings.proofs.ResidueFields.{prime_residues_field, residues_propositional}
-use Rattle.alg_rings.proofs.Divisors.{Polynomial, polynomial_ops}
+use Rattle.alg_rings.proofs.Divisors.{Polynomial}
 use Rattle.alg_divisors.proofs.Euclidean
 use Rattle.alg_divisors.proofs.Euclidean.{EuclideanLaws}
-use Rattle.alg_divisors.proofs.EuclideanPolynomials.{polynomials_euclidean, over_field}
+use Rattle.alg_divisors.proofs.EuclideanPolynomials.{over_field}
 use Rattle.alg_divisors.proofs.PolynomialFactors.{divides_to}
 use Rattle.alg_finite.proofs.FiniteField.{FiniteField}
 use Rattle.alg_finite.proofs.FiniteValues.{residues_finite}

@@ -1,5 +1,5 @@
 -- Trace and norm of the fields of the model, over the prime field and over a subfield.
-use Rattle.std.proofs.Common.{◌≡◌, ◌≢◌, ℕ, zero, suc, ◌+◌, ◌*◌, ◌^◌, ◌<◌, List, ap, ap₂, sym, ◌∙◌, subst, arith, zero-mul, [], ◌∷◌, refl}
+use Rattle.std.proofs.Common.{◌≡◌, ◌≢◌, ℕ, zero, suc, ◌*◌, ◌^◌, ◌<◌, List, ap, ap₂, sym, ◌∙◌, subst, arith, zero-mul, [], ◌∷◌, refl}
 use Rattle.std.proofs.Math.Nat.{mul-lt-mul_of_pos_left, mul-zero}
 use Rattle.alg_model.specs.Coefficients.{Ops, power, residues, IsPrime}
 use Rattle.alg_model.specs.Conjugates.{conjugates, sum_all, product_all, trace, norm}
@@ -11,7 +11,7 @@ use Rattle.alg_finite.proofs.FiniteValues.{residues_finite}
 use Rattle.alg_finite.proofs.Orbits.{Period, orbit_distinct}
 use Rattle.alg_finite.proofs.Traces.{trace_of, norm_of, list_fold}
 use Rattle.alg_finite.proofs.RelativeTraces
-use Rattle.alg_galois.proofs.Fields.{IsModulus, modulus_of, field_of, propositional, field_is, ops, laws, of_residue, of_residue_homomorphism, power_value, finite}
+use Rattle.alg_galois.proofs.Fields.{IsModulus, modulus_of, field_of, propositional, field_is, ops, laws, of_residue_homomorphism, power_value, finite}
 use Rattle.alg_galois.proofs.FieldEmbeddings.{generator_element}
 use Rattle.alg_galois.proofs.FieldFrobenius.{generator_period}
 use Rattle.alg_rings.proofs.Homomorphisms.{Homomorphism}

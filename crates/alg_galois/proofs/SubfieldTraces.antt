@@ -1,18 +1,18 @@
 -- Trace and norm over a subfield, through its embedding, and through towers of fields.
-use Rattle.std.proofs.Common.{◌≡◌, ◌≢◌, ℕ, zero, suc, ◌*◌, ◌/◌, ◌^◌, ◌<◌, List, ap, ap₂, sym, ◌∙◌, arith, subst, refl}
-use Rattle.std.proofs.Math.Nat.{div-add-mod, mul_assoc, mul-zero, mul-div_cancel_left}
+use Rattle.std.proofs.Common.{◌≡◌, ℕ, ◌*◌, ◌/◌, ◌^◌, ◌<◌, List, ap, sym, ◌∙◌, arith, subst, refl}
+use Rattle.std.proofs.Math.Nat.{div-add-mod, mul_assoc, mul-div_cancel_left}
 use Rattle.std.proofs.lemmas.Nat.Gcd.{mod-eq-zero_of_dvd}
 use Prim.Native.Nat.{◌∣◌}
-use Rattle.alg_model.specs.Coefficients.{Ops, power, IsPrime}
-use Rattle.alg_model.specs.Conjugates.{conjugates, sum_all, product_all, trace, norm, trace_over, norm_over}
-use Rattle.alg_model.specs.Maps.{Field, IsFiniteField, field_values, degree_of, generator, apply, IsEmbedding}
+use Rattle.alg_model.specs.Coefficients.{Ops, IsPrime}
+use Rattle.alg_model.specs.Conjugates.{trace, norm, trace_over, norm_over}
+use Rattle.alg_model.specs.Maps.{Field, IsFiniteField, field_values, degree_of, apply, IsEmbedding}
 use Rattle.alg_rings.proofs.Elements.{Element, underlying_injective}
 use Rattle.alg_rings.proofs.Homomorphisms.{Homomorphism}
 use Rattle.alg_finite.proofs.FiniteField.{pow_one}
 use Rattle.alg_finite.proofs.Traces.{trace_of, norm_of}
 use Rattle.alg_finite.proofs.RelativeTraces
-use Rattle.alg_galois.proofs.Fields.{IsModulus, field_of, propositional, ops, power_value, finite}
-use Rattle.alg_galois.proofs.FieldEmbeddings.{function_of, function_homomorphism, generator_element}
+use Rattle.alg_galois.proofs.Fields.{IsModulus, field_of, propositional, ops, finite}
+use Rattle.alg_galois.proofs.FieldEmbeddings.{function_of, function_homomorphism}
 use Rattle.alg_galois.proofs.FieldTraces.{TraceFacts, trace_facts, sum_value, product_value, trace_by, norm_by}
 use Rattle.alg_galois.proofs.Embeddings.{of_two_fields, of_three_fields}
 use Rattle.alg_galois.proofs.EmbeddingRoots.{embedding_degree_divides}

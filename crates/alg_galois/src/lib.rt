@@ -3,15 +3,19 @@
 //! polynomials. Each function does nothing: its contract is the law.
 #![tactic(auto)]
 
-ghost use Rattle.alg_galois.specs.Theorems.{ValuesFormField, HasItsSize, ValueIsItsPower, FrobeniusHasOrder};
-ghost use Rattle.alg_galois.specs.Theorems.{FrobeniusFixesConstants, RootExists, RootNeedsDegree, RootsAreOneOrbit};
-ghost use Rattle.alg_galois.specs.Theorems.{OrbitIsLong, RootGivesEmbedding, EmbeddingIsPowers, EmbeddingIsInjective};
-ghost use Rattle.alg_galois.specs.Theorems.{EmbeddingsDiffer, PowerIsDetermined, SubfieldExists, SubfieldIsFixed};
+ghost use Rattle.alg_galois.specs.Theorems.{ValuesFormField, HasItsSize, ValueIsItsPower};
+ghost use Rattle.alg_galois.specs.Theorems.{FrobeniusHasOrder, FrobeniusFixesConstants, RootExists};
+ghost use Rattle.alg_galois.specs.Theorems.{RootNeedsDegree, RootsAreOneOrbit, OrbitIsLong};
+ghost use Rattle.alg_galois.specs.Theorems.{RootGivesEmbedding, EmbeddingIsPowers};
+ghost use Rattle.alg_galois.specs.Theorems.{EmbeddingIsInjective, EmbeddingsDiffer};
+ghost use Rattle.alg_galois.specs.Theorems.{PowerIsDetermined, SubfieldExists, SubfieldIsFixed};
 ghost use Rattle.alg_galois.specs.Theorems.{MeetIsGcd, TraceIsConstant, TraceParts, TraceOverParts};
-ghost use Rattle.alg_galois.specs.Theorems.{TraceIsTransitive, NormIsTransitive, IrreducibleExists, LeastIsUnique};
-ghost use Rattle.alg_galois.specs.Theorems.{MinimalExists, MinimalIsUnique, MinimalIsIrreducible, MinimalDivides};
-ghost use Rattle.alg_galois.specs.Theorems.{PowersAreRoots, FrobeniusIsEmbedding, GeneratorOrbitIsLong};
-ghost use Rattle.alg_galois.specs.Theorems.{PrimeMinimalExists, PrimeMinimalIsUnique, PrimeMinimalIsIrreducible, PrimeMinimalDivides};
+ghost use Rattle.alg_galois.specs.Theorems.{TraceIsTransitive, NormIsTransitive, IrreducibleExists};
+ghost use Rattle.alg_galois.specs.Theorems.{LeastIsUnique, MinimalExists, MinimalIsUnique};
+ghost use Rattle.alg_galois.specs.Theorems.{MinimalIsIrreducible, MinimalDivides, PowersAreRoots};
+ghost use Rattle.alg_galois.specs.Theorems.{FrobeniusIsEmbedding, GeneratorOrbitIsLong};
+ghost use Rattle.alg_galois.specs.Theorems.{PrimeMinimalExists, PrimeMinimalIsUnique};
+ghost use Rattle.alg_galois.specs.Theorems.{PrimeMinimalIsIrreducible, PrimeMinimalDivides};
 
 /// The values of a finite field of characteristic p and degree n form a field with p^n elements,
 /// each its own power p^n.

@@ -2,10 +2,12 @@
 //! the laws that a reader of their contracts may want, as contracts of functions that do nothing.
 #![tactic(auto)]
 
-ghost use Rattle.alg_rings.specs.Theorems.{ProductsAreConvolutions, ResidueProductsAreConvolutions, PolynomialsAreARing};
-ghost use Rattle.alg_rings.specs.Theorems.{ResiduesAreAField, DivisionExists, DivisionIsUnique, DividesWithoutRemainder};
+ghost use Rattle.alg_rings.specs.Theorems.{ProductsAreConvolutions, ResidueProductsAreConvolutions};
+ghost use Rattle.alg_rings.specs.Theorems.{PolynomialsAreARing, ResiduesAreAField, DivisionExists};
+ghost use Rattle.alg_rings.specs.Theorems.{DivisionIsUnique, DividesWithoutRemainder};
 ghost use Rattle.alg_rings.specs.Theorems.{DivisionExistsOverFields, DivisionIsUniqueOverFields};
-ghost use Rattle.alg_rings.specs.Theorems.{CharacteristicsArePrime, ShorterComesFirst, HighestPlaceDecides, EqualCompareEqual};
+ghost use Rattle.alg_rings.specs.Theorems.{CharacteristicsArePrime, ShorterComesFirst};
+ghost use Rattle.alg_rings.specs.Theorems.{HighestPlaceDecides, EqualCompareEqual};
 
 /// The k-th coefficient of a product of polynomials is the sum of the products of their
 /// coefficients at places that add up to k: over each commutative ring, and over the residues
