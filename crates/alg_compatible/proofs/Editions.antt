@@ -16,23 +16,29 @@ use Rattle.alg_galois.proofs.Fields.{prime_field_finite}
 
 -- ---- the two editions
 primes_are_prime : All IsPrime primes
-primes_are_prime k d h = characteristic_is_prime (get_or primes k d) (k, h, get_or_default primes k _ d h)
+primes_are_prime k d h =
+    characteristic_is_prime (get_or primes k d) (k, h, get_or_default primes k _ d h)
 
 primes_are_words : All (λ p. p < 2 ^ 64) primes
-primes_are_words k d h = each_characteristic (λ p. p < 2 ^ 64) (search rules) (get_or primes k d) (k, h, get_or_default primes k _ d h)
+primes_are_words k d h = each_characteristic (λ p. p < 2 ^ 64) (search rules) (get_or primes k d)
+    (k, h, get_or_default primes k _ d h)
 
 -- each number of the table is below the next
-below_next : All (λ k. slice_index primes k < slice_index primes (k + 1)) (range_with_len 0 (length primes - 1))
-below_next = All-from_recursion (λ k. slice_index primes k < slice_index primes (k + 1)) (range_with_len 0 (length primes - 1)) (search rules)
+below_next : All (λ k. slice_index primes k < slice_index primes (k + 1))
+    (range_with_len 0 (length primes - 1))
+below_next = All-from_recursion (λ k. slice_index primes k < slice_index primes (k + 1))
+    (range_with_len 0 (length primes - 1)) (search rules)
 
 primes_rise : IsStrictlyIncreasing primes
 primes_rise k h =
-    let e : get_or (range_with_len 0 17) k 0 ≡ k = omega (arith, get_or-range_with_len 0 17 k 0 (omega arith)) in
+    let e : get_or (range_with_len 0 17) k 0 ≡ k =
+    omega (arith, get_or-range_with_len 0 17 k 0 (omega arith)) in
     subst (λ i. slice_index primes i < slice_index primes (i + 1)) e (below_next k 0 (omega arith))
 
 primes_differ : AllPairs (λ p q. p ≢ q) primes
 primes_differ i j d l h e =
-    let a : get_or primes i d < get_or primes j d = AllPairs-from_increasing primes primes_rise i j d l h in
+    let a : get_or primes i d < get_or primes j d =
+    AllPairs-from_increasing primes primes_rise i j d l h in
     omega arith
 
 -- what holds of all pairs of a list holds of all pairs of its first members
@@ -40,7 +46,8 @@ pairs_take : {X : Type 0} (R : X → X → Type 0) (n : ℕ) (xs : List X) → A
     → AllPairs R (take n xs)
 pairs_take R n xs all i j d l h =
     let e : length (take n xs) ≡ min n (length xs) = length-take n xs in
-    rw (get_or-take n xs i d (omega arith), get_or-take n xs j d (omega arith)) (all i j d l (omega arith))
+    rw (get_or-take n xs i d (omega arith), get_or-take n xs j d (omega arith))
+    (all i j d l (omega arith))
 
 -- **the first edition is an edition**
 pub first_is_edition : IsEdition first_edition
@@ -99,7 +106,8 @@ module _ (edition : Edition) (D : IsEdition edition) where
     names_differ = λ i j d l h e.
         let k : j < length edition.primes = omega (arith, length-map edition.primes prime_row) in
         let m : i < length edition.primes = omega arith in
-        D.primes_differ i j 0 l k (name_injective (get_or edition.primes i 0) (get_or edition.primes j 0)
+        D.primes_differ i j 0 l k
+        (name_injective (get_or edition.primes i 0) (get_or edition.primes j 0)
         (D.are_words i 0 m) (D.are_words j 0 k)
         (sym (ap (λ r. r.name) (row_at i d m)) ∙ e ∙ ap (λ r. r.name) (row_at j d k)));
     room = let a : length edition.primes ≤ edition.room = D.prime_fields in

@@ -74,7 +74,8 @@ choice_one_law L E F sending v w c d = Choosing.choice_one c d
 
 pub missing_law : MissingDegreesExist
 missing_law L E F C =
-    let (ds, a) = Theory.missing_list embedding_laws frobenius_laws (to_theory L C.rows C.compatible) (lattice_decided L) E F in
+    let (ds, a) = Theory.missing_list embedding_laws frobenius_laws
+    (to_theory L C.rows C.compatible) (lattice_decided L) E F in
     (ds, from_list a)
 
 pub missing_one_law : MissingDegreesAreUnique

@@ -11,12 +11,12 @@ use Rattle.alg_model.specs.Fields.{IsField}
 use Rattle.alg_rings.specs.Laws.{IsPropositional}
 use Rattle.alg_rings.proofs.CarrierPolynomials.{trim_polynomial}
 use Rattle.alg_rings.proofs.Divisors.{Polynomial, same_polynomial}
-use Rattle.alg_divisors.specs.Factorization.{IsFactorization}
 use Rattle.alg_rings.proofs.Divisibility
+use Rattle.alg_rings.proofs.PolynomialOrder.{order_by_total}
+use Rattle.alg_divisors.specs.Factorization.{IsFactorization}
 use Rattle.alg_divisors.proofs.Irreducible.{FactorOrNone}
 use Rattle.alg_divisors.proofs.Factorization
 use Rattle.alg_divisors.proofs.Least
-use Rattle.alg_rings.proofs.PolynomialOrder.{order_by_total}
 use Rattle.alg_divisors.proofs.Decisions.{decided_by_list}
 use Rattle.alg_divisors.proofs.EuclideanPolynomials.{over_field}
 use Rattle.alg_divisors.proofs.PolynomialFactors.{divides_to, proper_to, proper_from, irreducible_to, MonicIrreducible, product_of-map}

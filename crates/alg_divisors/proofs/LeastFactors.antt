@@ -10,10 +10,10 @@ use Rattle.alg_model.specs.Factors.{IsMonic, IsIrreducible, IsLeastFactor, order
 use Rattle.alg_model.specs.Fields.{IsField}
 use Rattle.alg_rings.specs.Laws.{IsPropositional}
 use Rattle.alg_rings.proofs.Divisors.{Polynomial, polynomial_ops, divided_is_polynomial}
+use Rattle.alg_rings.proofs.PolynomialOrder.{order_by_total, order_by_same, order_by_shorter, order_by_not_longer}
 use Rattle.alg_divisors.specs.Factorization.{IsFactorization}
 use Rattle.alg_divisors.proofs.Factorization
 use Rattle.alg_divisors.proofs.Least
-use Rattle.alg_rings.proofs.PolynomialOrder.{order_by_total, order_by_same, order_by_shorter, order_by_not_longer}
 use Rattle.alg_divisors.proofs.EuclideanPolynomials.{polynomials_euclidean, over_field}
 use Rattle.alg_divisors.proofs.PolynomialFactors.{Members, members_of_factorization, product_of_members, proper_to, proper_from, irreducible_to}
 

@@ -8,8 +8,8 @@ use Rattle.alg_model.specs.Factors.{IsPolynomial, IsMonic, Divides, IsGreatestCo
 use Rattle.alg_model.specs.Fields.{IsField}
 use Rattle.alg_rings.specs.Laws.{IsPropositional}
 use Rattle.alg_rings.proofs.Divisors.{Polynomial, polynomial_ops, same_polynomial, divided_is_polynomial}
-use Rattle.alg_divisors.specs.Factorization.{product_of, IsFactorization, IsCombination, AreCoprime}
 use Rattle.alg_rings.proofs.Divisibility
+use Rattle.alg_divisors.specs.Factorization.{product_of, IsFactorization, IsCombination, AreCoprime}
 use Rattle.alg_divisors.proofs.Gcd
 use Rattle.alg_divisors.proofs.Irreducible
 use Rattle.alg_divisors.proofs.Factorization

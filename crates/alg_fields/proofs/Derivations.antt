@@ -4,11 +4,13 @@ use Rattle.std.proofs.Common.{◌≡◌, ℕ, ◌<◌, List, [], ◌∷◌, map,
 use Rattle.alg_model.specs.Coefficients.{Carrier, times, power}
 use Rattle.alg_model.specs.Polynomials.{poly_sum, poly_product, derivative, evaluate}
 use Rattle.alg_model.specs.Fields.{IsRing}
+use Rattle.alg_model.specs.Coefficients.{IsPrime}
 use Rattle.alg_rings.specs.Laws.{IsPropositional}
 use Rattle.alg_rings.proofs.Homomorphisms.{poly_sum-map, poly_product-map, derivative-map}
 use Rattle.alg_rings.proofs.Elements.{Element, underlying, element_ops, on_valid₂, elements, elements_are, on_elements}
 use Rattle.alg_rings.proofs.CarrierPolynomials.{derivative_polynomial}
 use Rattle.alg_rings.proofs.Divisors.{Polynomial, polynomial_ops, polynomial_laws, same_polynomial, on_polynomials}
+use Rattle.alg_rings.proofs.Trims
 use Rattle.alg_fields.proofs.Derivatives
 use Rattle.alg_fields.proofs.Derivatives.{raw_derivative}
 use Rattle.alg_fields.proofs.Squares
@@ -17,10 +19,8 @@ use Rattle.alg_fields.proofs.PowerRoots
 use Rattle.alg_fields.proofs.PowerRoots.{every}
 use Rattle.alg_fields.proofs.Generator.{generator, polynomial_is_value}
 use Rattle.alg_fields.proofs.Frobenius
-use Rattle.alg_model.specs.Coefficients.{IsPrime}
 use Rattle.alg_fields.proofs.Derivatives.{raw_derivative}
 use Rattle.alg_fields.proofs.Constants.{constant, constant_homomorphism}
-use Rattle.alg_rings.proofs.Trims
 
 module _ {A : Type 0} {c : Carrier A} (P : IsPropositional c) (R : IsRing c) where
   open on_elements P R use {ops as E, laws as L, value as H}

@@ -5,6 +5,7 @@ use Rattle.alg_model.specs.Coefficients.{Carrier, times, power}
 use Rattle.alg_model.specs.Polynomials.{trim, poly_product, evaluate, derivative}
 use Rattle.alg_model.specs.Factors.{IsPolynomial, Divides}
 use Rattle.alg_model.specs.Fields.{IsRing, IsField}
+use Rattle.alg_model.specs.Coefficients.{IsPrime}
 use Rattle.alg_rings.specs.Laws.{IsPropositional}
 use Rattle.alg_rings.proofs.Trims
 use Rattle.alg_rings.proofs.Division.{zero_from_product}
@@ -13,7 +14,6 @@ use Rattle.alg_rings.proofs.Elements.{Element, underlying, element_ops, underlyi
 use Rattle.alg_rings.proofs.CarrierPolynomials.{trimmed_elements}
 use Rattle.alg_rings.proofs.Powers
 use Rattle.alg_fields.proofs.Frobenius
-use Rattle.alg_model.specs.Coefficients.{IsPrime}
 use Rattle.alg_fields.proofs.Roots
 use Rattle.alg_fields.proofs.Roots.{linear, quotient_at}
 

@@ -11,10 +11,10 @@ use Rattle.alg_rings.proofs.Trims
 use Rattle.alg_rings.proofs.Validity.{product_valid}
 use Rattle.alg_rings.proofs.CarrierPolynomials.{poly_power_polynomial}
 use Rattle.alg_rings.proofs.Divisors.{Polynomial, polynomial_ops, same_polynomial}
-use Rattle.alg_divisors.proofs.EuclideanPolynomials.{over_field}
-use Rattle.alg_divisors.proofs.PolynomialFactors.{divides_to, divides_from}
 use Rattle.alg_rings.proofs.Modulo
 use Rattle.alg_rings.proofs.Modulo.{Same}
+use Rattle.alg_divisors.proofs.EuclideanPolynomials.{over_field}
+use Rattle.alg_divisors.proofs.PolynomialFactors.{divides_to, divides_from}
 use Rattle.alg_fields.proofs.Quotients.{IsQuotient}
 use Rattle.alg_fields.proofs.ListRemainders.{length_remainder}
 use Rattle.alg_fields.proofs.Classes

@@ -12,9 +12,9 @@ use Rattle.alg_rings.specs.Laws.{IsPropositional}
 use Rattle.alg_rings.proofs.Homomorphisms.{Homomorphism}
 use Rattle.alg_rings.proofs.Elements.{Element, element_ops, underlying_injective}
 use Rattle.alg_rings.proofs.Divisors.{Polynomial, polynomial_ops}
-use Rattle.alg_divisors.proofs.EuclideanPolynomials.{over_field}
 use Rattle.alg_rings.proofs.Modulo
 use Rattle.alg_rings.proofs.Modulo.{Same}
+use Rattle.alg_divisors.proofs.EuclideanPolynomials.{over_field}
 use Rattle.alg_fields.proofs.Quotients.{IsQuotient}
 use Rattle.alg_fields.proofs.Classes
 use Rattle.alg_fields.proofs.Constants.{constant, alone, constant_homomorphism}

@@ -18,12 +18,12 @@ use Rattle.alg_rings.proofs.Lists
 use Rattle.alg_rings.proofs.Trims
 use Rattle.alg_rings.proofs.Validity.{sum_valid, product_valid, negatives_valid}
 use Rattle.alg_rings.proofs.Divisors.{Polynomial, same_polynomial}
+use Rattle.alg_rings.proofs.Modulo
+use Rattle.alg_rings.proofs.Modulo.{Same}
 use Rattle.alg_divisors.proofs.Euclidean
 use Rattle.alg_divisors.proofs.Irreducible
 use Rattle.alg_divisors.proofs.EuclideanPolynomials.{over_field}
 use Rattle.alg_divisors.proofs.PolynomialFactors.{irreducible_from}
-use Rattle.alg_rings.proofs.Modulo
-use Rattle.alg_rings.proofs.Modulo.{Same}
 use Rattle.alg_fields.proofs.ListRemainders.{length_remainder}
 use Rattle.alg_fields.proofs.Classes
 use Rattle.alg_fields.proofs.Classes.{class_of}

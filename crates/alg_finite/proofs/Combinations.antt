@@ -15,8 +15,8 @@ use Rattle.alg_rings.proofs.Rings.{sorted, expanded}
 use Rattle.alg_rings.proofs.Elements.{Element, underlying}
 use Rattle.alg_rings.proofs.Homomorphisms.{Homomorphism}
 use Rattle.alg_rings.proofs.Divisors.{Polynomial}
-use Rattle.alg_finite.proofs.Values
 use Rattle.alg_fields.proofs.ValueConstants.{constant_value}
+use Rattle.alg_finite.proofs.Values
 
 -- h x_0 * c_0 + h x_1 * c_1 + ..
 abbrev pub combine : {A B : Type 0} (h : B → A) (o : Ops A) → List A → List B → A

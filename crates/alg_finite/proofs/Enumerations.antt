@@ -2,8 +2,8 @@
 --     Enumeration A n     A has n members, with the numbers below n
 --     Repeats f n         f takes one value at two numbers below n
 use Rattle.std.proofs.Common.{◌≡◌, ◌≢◌, ◌⊎◌, ⊎_elim, inl, inr, ℕ, zero, suc, ◌+◌, ◌*◌, ◌/◌, ◌%◌, ◌^◌, ◌<◌, ◌≤◌, List, [], ◌∷◌, length, refl, ap, ap₂, sym, ◌∙◌, arith, pow-suc, mod-lt, eq-or-lt_of_le}
-use Rattle.alg_rings.proofs.Decisions.{Least, search_below}
 use Rattle.std.proofs.Math.Nat.{pow-zero, mul_comm, add-mul-mod_self_left, add-mul-div_left, mul-le-mul_left, mod-add-div, div-lt_iff_lt-mul, mod-eq_of_lt, div-eq_of_lt}
+use Rattle.alg_rings.proofs.Decisions.{Least, search_below}
 
 pub record Enumeration (A : Type 0) (n : ℕ) : Type 0 where
   pub at : ℕ → A

@@ -6,10 +6,10 @@ use Rattle.alg_model.specs.Coefficients.{Ops, power}
 use Rattle.alg_model.specs.Polynomials.{evaluate}
 use Rattle.alg_rings.specs.Laws.{FieldLaws}
 use Rattle.alg_rings.proofs.Homomorphisms.{Homomorphism, power-map, evaluate-map}
-use Rattle.alg_fields.proofs.FermatProduct.{fixing, length_fixing, leading_fixing, value_of_fixing}
-use Rattle.alg_finite.proofs.Enumerations.{Distinct, members_distinct}
 use Rattle.alg_rings.proofs.Decisions.{Least, search_below}
 use Rattle.alg_rings.proofs.Rings.{equal_or_not}
+use Rattle.alg_fields.proofs.FermatProduct.{fixing, length_fixing, leading_fixing, value_of_fixing}
+use Rattle.alg_finite.proofs.Enumerations.{Distinct, members_distinct}
 use Rattle.alg_finite.proofs.FieldMaps.{injective}
 use Rattle.alg_finite.proofs.FiniteField.{FiniteField, frobenius, frobenius_none, frobenius_last, root_bound_at}
 

@@ -8,12 +8,12 @@ use Rattle.std.proofs.lemmas.Bool.{cases_lt, cases_eq}
 use Rattle.std.proofs.lemmas.List.FromFn.{length-map-range_with_len, get_or-map-range_with_len}
 use Rattle.std.proofs.lemmas.List.Elements.{All-from_get_or}
 use Rattle.std.proofs.lemmas.Nat.Gcd.{le_of_dvd, dvd_of_mod-eq-zero}
-use Rattle.alg_rings.proofs.Divisibility
 use Rattle.alg_model.specs.Coefficients.{Ops, Carrier, times}
 use Rattle.alg_model.specs.Polynomials.{trim, derivative, poly_negative}
 use Rattle.alg_model.specs.Factors.{IsMonic, IsIrreducible, Divides}
 use Rattle.alg_model.specs.Values.{degree, values}
 use Rattle.alg_model.specs.Fields.{IsField}
+use Rattle.alg_rings.proofs.Divisibility
 use Rattle.alg_rings.specs.Laws.{RingLaws, FieldLaws, IsPropositional}
 use Rattle.alg_rings.proofs.Rings
 use Rattle.alg_rings.proofs.Rings.{sorted}
@@ -23,6 +23,7 @@ use Rattle.alg_rings.proofs.Monomials.{monomial, monomial_at, monomial_elsewhere
 use Rattle.alg_rings.proofs.Elements.{Element, underlying, element_ops, underlying_homomorphism, on_elements}
 use Rattle.alg_rings.proofs.Homomorphisms.{derivative-map}
 use Rattle.alg_rings.proofs.Divisors.{Polynomial, polynomial_ops, same_polynomial}
+use Rattle.alg_rings.proofs.Powers
 use Rattle.alg_divisors.proofs.Euclidean
 use Rattle.alg_divisors.proofs.Euclidean.{EuclideanLaws}
 use Rattle.alg_divisors.proofs.Gcd
@@ -31,19 +32,18 @@ use Rattle.alg_divisors.proofs.EuclideanPolynomials.{over_field}
 use Rattle.alg_divisors.proofs.PolynomialFactors.{divides_to, divides_from}
 use Rattle.alg_divisors.proofs.Finite.{IsFinite}
 use Rattle.alg_divisors.proofs.Existence.{irreducible_divisor_exists}
-use Rattle.alg_rings.proofs.Powers
 use Rattle.alg_fields.proofs.Derivatives
 use Rattle.alg_fields.proofs.Derivatives.{raw_derivative}
 use Rattle.alg_fields.proofs.Derivations.{derivative_of, product_rule}
 use Rattle.alg_fields.proofs.Squares
 use Rattle.alg_fields.proofs.Remainders.{divides_iff_remainder_zero}
 use Rattle.alg_fields.proofs.FermatProduct.{fixing}
+use Rattle.alg_fields.proofs.ValueConstants.{constant_value_homomorphism}
 use Rattle.alg_finite.proofs.FiniteField.{FiniteField, frobenius, above_one, pow_strict, pow_positive}
 use Rattle.alg_finite.proofs.Orbits.{period_divides}
 use Rattle.alg_finite.proofs.RootExistence.{fixing_polynomial, length_fixing_polynomial, fixing_monic, evaluate_fixing, divides_fixing}
 use Rattle.alg_finite.proofs.Values
 use Rattle.alg_finite.proofs.FiniteValues.{values_finite, generator_returns, generator_period}
-use Rattle.alg_fields.proofs.ValueConstants.{constant_value_homomorphism}
 
 positive_suc : (j : ℕ) → 0 < suc j
 positive_suc j = omega arith

@@ -19,10 +19,10 @@ use Rattle.alg_rings.proofs.Lists
 use Rattle.alg_rings.proofs.Trims
 use Rattle.alg_rings.proofs.Homomorphisms.{Homomorphism, product-map, leading-map}
 use Rattle.alg_rings.proofs.Evaluation
-use Rattle.alg_fields.proofs.Roots.{linear, linear_product, linear_product_is, value_of_linear}
-use Rattle.alg_finite.proofs.Enumerations.{Distinct}
 use Rattle.alg_rings.proofs.Decisions.{Least, search_below}
 use Rattle.alg_rings.proofs.Rings.{equal_or_not}
+use Rattle.alg_fields.proofs.Roots.{linear, linear_product, linear_product_is, value_of_linear}
+use Rattle.alg_finite.proofs.Enumerations.{Distinct}
 use Rattle.alg_finite.proofs.FieldMaps.{injective}
 use Rattle.alg_finite.proofs.FiniteField.{FiniteField, frobenius, frobenius_none, frobenius_next, frobenius_add, frobenius_of_power, frobenius_multiple, frobenius_remainder, frobenius_homomorphism, frobenius_cancel, root_bound_at, above_one}
 use Rattle.alg_finite.proofs.Extensions.{fixed_is_image, frobenius_of_value}

@@ -4,11 +4,11 @@ use Rattle.std.proofs.Math.Nat.{mul_assoc}
 use Rattle.alg_model.specs.Coefficients.{Ops, power}
 use Rattle.alg_rings.proofs.Rings
 use Rattle.alg_rings.proofs.Homomorphisms.{Homomorphism, power-map}
+use Rattle.alg_rings.proofs.Folds.{fold, IsCommutative, Keeps, sums, products, sums_kept, products_kept, fold_same, fold-map}
 use Rattle.alg_finite.proofs.Enumerations.{Distinct}
 use Rattle.alg_finite.proofs.FiniteField.{FiniteField, frobenius, frobenius_of_power, frobenius_multiple, frobenius_homomorphism, pow_mul, above_one}
 use Rattle.alg_finite.proofs.Extensions.{fixed_is_image}
 use Rattle.alg_finite.proofs.Traces
-use Rattle.alg_rings.proofs.Folds.{fold, IsCommutative, Keeps, sums, products, sums_kept, products_kept, fold_same, fold-map}
 
 -- each power of a -> a^q keeps the operations, for q = p^m
 pub powers_keep : {A : Type 0} {o : Ops A} {p n : ℕ} → FiniteField o p n → (m i : ℕ)

@@ -2,12 +2,12 @@
 -- with q^e members exactly if d divides e.
 use Rattle.std.proofs.Common.{◌≡◌, ◌≢◌, ◌⊎◌, ⊎_elim, ℕ, zero, suc, ◌*◌, ◌%◌, ◌^◌, ◌<◌, [], ◌∷◌, length, map, refl, ap, ap₂, sym, ◌∙◌, arith}
 use Rattle.std.proofs.lemmas.List.{length-map}
-use Rattle.alg_rings.proofs.Divisibility
 use Rattle.alg_model.specs.Coefficients.{Ops, Carrier, power}
 use Rattle.alg_model.specs.Polynomials.{leading, sum, evaluate}
 use Rattle.alg_model.specs.Factors.{IsMonic, IsIrreducible, Divides}
 use Rattle.alg_model.specs.Values.{degree, values}
 use Rattle.alg_model.specs.Fields.{IsField}
+use Rattle.alg_rings.proofs.Divisibility
 use Rattle.alg_rings.specs.Laws.{RingLaws, FieldLaws, IsPropositional}
 use Rattle.alg_rings.proofs.Rings
 use Rattle.alg_rings.proofs.Monomials.{monomial}
@@ -16,14 +16,15 @@ use Rattle.alg_rings.proofs.CarrierPolynomials.{leading_not_zero}
 use Rattle.alg_rings.proofs.Elements.{Element, underlying, element_ops, element_laws, on_elements}
 use Rattle.alg_rings.proofs.Homomorphisms.{Homomorphism, sum-map, leading-map}
 use Rattle.alg_rings.proofs.Divisors.{Polynomial, polynomial_ops, same_polynomial}
+use Rattle.alg_rings.proofs.Decisions.{Least, search_below, fails_or_not}
 use Rattle.alg_divisors.proofs.Euclidean
 use Rattle.alg_divisors.proofs.Euclidean.{EuclideanLaws}
 use Rattle.alg_divisors.proofs.EuclideanPolynomials.{over_field}
 use Rattle.alg_divisors.proofs.PolynomialFactors.{divides_from}
 use Rattle.alg_fields.proofs.Remainders.{divides_iff_remainder_zero}
 use Rattle.alg_fields.proofs.FermatProduct.{fixing, length_fixing, leading_fixing, value_of_fixing}
+use Rattle.alg_fields.proofs.ValueConstants.{constant_value, constant_value_homomorphism}
 use Rattle.alg_finite.proofs.Enumerations.{members_distinct}
-use Rattle.alg_rings.proofs.Decisions.{Least, search_below, fails_or_not}
 use Rattle.alg_finite.proofs.FieldMaps.{injective}
 use Rattle.alg_finite.proofs.FiniteField.{FiniteField, frobenius_of_power, frobenius_multiple, root_bound_at, pow_mul, above_one}
 use Rattle.alg_finite.proofs.Orbits.{period_divides}
@@ -31,7 +32,6 @@ use Rattle.alg_finite.proofs.Evaluation.{coefficients, evaluate_by, polynomial_o
 use Rattle.alg_finite.proofs.MinimalPolynomials.{root_period}
 use Rattle.alg_finite.proofs.Values
 use Rattle.alg_finite.proofs.FiniteValues.{generator_returns}
-use Rattle.alg_fields.proofs.ValueConstants.{constant_value, constant_value_homomorphism}
 
 monomial-map : {A B : Type 0} {k : Ops B} {o : Ops A} {h : B → A} → Homomorphism k o h
     → (t : B) (n : ℕ) → map h (monomial k t n) ≡ monomial o (h t) n

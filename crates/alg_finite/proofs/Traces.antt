@@ -11,16 +11,16 @@ use Rattle.alg_rings.proofs.Rings
 use Rattle.alg_rings.proofs.Rings.{sorted, expanded}
 use Rattle.alg_rings.proofs.Homomorphisms.{Homomorphism, power-map}
 use Rattle.alg_rings.proofs.Division.{zero_from_product}
+use Rattle.alg_rings.proofs.Evaluation
+use Rattle.alg_rings.proofs.Decisions.{Least, search_below, fails_or_not}
+use Rattle.alg_rings.proofs.Folds.{fold, IsCommutative, Keeps, fold_same, fold-map, fold_both, fold_swap, fold_last, fold_blocks}
+use Rattle.alg_fields.proofs.Roots.{linear, linear_product, value_of_linear}
 use Rattle.alg_linear.specs.PrivateGrids.{total}
 use Rattle.alg_linear.proofs.Sums.{total_zero, total_add, total_scale, total_single}
-use Rattle.alg_rings.proofs.Evaluation
-use Rattle.alg_fields.proofs.Roots.{linear, linear_product, value_of_linear}
 use Rattle.alg_finite.proofs.Enumerations.{Distinct}
-use Rattle.alg_rings.proofs.Decisions.{Least, search_below, fails_or_not}
 use Rattle.alg_finite.proofs.FiniteField.{frobenius, frobenius_none, frobenius_next, frobenius_last, frobenius_add}
 use Rattle.alg_finite.proofs.Orbits.{orbit, length_orbit, orbit_at, length_linear_product}
 use Rattle.alg_finite.proofs.MinimalPolynomials.{root_of_linear_product}
-use Rattle.alg_rings.proofs.Folds.{fold, IsCommutative, Keeps, fold_same, fold-map, fold_both, fold_swap, fold_last, fold_blocks}
 
 -- a + a^q + .., e members
 abbrev pub trace_of : {A : Type 0} → Ops A → ℕ → ℕ → A → A
@@ -122,7 +122,8 @@ module _ {A : Type 0} {o : Ops A} (L : FieldLaws o) (q : ℕ)
         (evaluate o g (frobenius o q i x) ⊗ frobenius o q i a))
         ∙ ap₂ ◌⊕◌
         (total_scale L.ring e c (λ i. power o (frobenius o q i x) j ⊗ frobenius o q i a)
-        ∙ ap (λ t. c ⊗ t) (fold_same O ◌⊕◌ e _ _ (λ i w. sym (conjugate_power i j)) ∙ z j (omega arith))
+        ∙ ap (λ t. c ⊗ t)
+        (fold_same O ◌⊕◌ e _ _ (λ i w. sym (conjugate_power i j)) ∙ z j (omega arith))
         ∙ Rings.mul_zero L.ring c)
         (all_zero z g (suc j) (omega arith)) ∙ L.ring.zero_add O
       where

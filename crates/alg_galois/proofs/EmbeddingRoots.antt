@@ -125,7 +125,8 @@ module _ (E F : Field) (V : IsFiniteField E) (W : IsFiniteField F) where
         λ q. FieldFrobenius.powers_agree_on_root p h f M g N (v, r.0)
             (root_from p h f M g N v r) s t
             (underlying_injective (propositional p h g N) _ _
-            (power_value p h g N (v, r.0) (p ^ s) ∙ q ∙ sym (power_value p h g N (v, r.0) (p ^ t)))),
+            (power_value p h g N (v, r.0) (p ^ s) ∙ q
+            ∙ sym (power_value p h g N (v, r.0) (p ^ t)))),
         λ q. sym (power_value p h g N (v, r.0) (p ^ s))
             ∙ ap (λ y. y.0) (FieldFrobenius.same_powers_on_root p h f M g N (v, r.0)
             (root_from p h f M g N v r) s t q)

@@ -5,6 +5,8 @@ use Rattle.alg_model.specs.Coefficients.{Ops, power, residues, IsPrime}
 use Rattle.alg_model.specs.Conjugates.{conjugates, sum_all, product_all, trace, norm}
 use Rattle.alg_model.specs.Maps.{Field, IsFiniteField, field_values, degree_of, generator, constant}
 use Rattle.alg_rings.proofs.Elements.{Element, underlying_injective, underlying_homomorphism, underlying}
+use Rattle.alg_rings.proofs.Homomorphisms.{Homomorphism}
+use Rattle.alg_rings.proofs.Folds.{fold, Keeps, sums_kept, products_kept, fold_same, fold-map}
 use Rattle.alg_finite.proofs.Enumerations.{Distinct}
 use Rattle.alg_finite.proofs.FiniteField.{frobenius, frobenius_of_power, pow_one, FiniteField}
 use Rattle.alg_finite.proofs.FiniteValues.{residues_finite}
@@ -14,8 +16,6 @@ use Rattle.alg_finite.proofs.RelativeTraces
 use Rattle.alg_galois.proofs.Fields.{IsModulus, modulus_of, field_of, propositional, field_is, ops, laws, of_residue_homomorphism, power_value, finite}
 use Rattle.alg_galois.proofs.FieldEmbeddings.{generator_element}
 use Rattle.alg_galois.proofs.FieldFrobenius.{generator_period}
-use Rattle.alg_rings.proofs.Homomorphisms.{Homomorphism}
-use Rattle.alg_rings.proofs.Folds.{fold, Keeps, sums_kept, products_kept, fold_same, fold-map}
 
 module _ (p : ℕ) (h : IsPrime p) (g : List ℕ) (N : IsModulus p g) where
   abbrev FO : Ops (Element (field_values (field_of p g)))
@@ -24,7 +24,8 @@ module _ (p : ℕ) (h : IsPrime p) (g : List ℕ) (N : IsModulus p g) where
   abbrev n : ℕ
   n = degree_of (field_of p g)
 
-  -- sums and products of conjugates, as elements and as lists: t is the sum of a list, or the product
+  -- sums and products of conjugates, as elements and as lists: t is the sum of a list, or the
+  -- product
   conjugates_value : {v : Element (field_values (field_of p g))}
       {w : Element (field_values (field_of p g)) → Element (field_values (field_of p g))
       → Element (field_values (field_of p g))} {u : List ℕ} {m : List ℕ → List ℕ → List ℕ}
@@ -145,7 +146,8 @@ module _ (p : ℕ) (h : IsPrime p) (g : List ℕ) (N : IsModulus p g) {B : Type 
   -- the trace of a power of the generator times a value, as an element and as a list
   trace_of_multiple : (j : ℕ) (a : List ℕ) (va : (field_values F).Valid a)
       → (trace_of O (p ^ m) e (O.mul (power O x j) (a, va))).0
-      ≡ trace_by F (p ^ m) e ((field_values F).ops.mul (power (field_values F).ops (generator F) j) a)
+      ≡ trace_by F (p ^ m) e
+      ((field_values F).ops.mul (power (field_values F).ops (generator F) j) a)
   trace_of_multiple j a va =
       sum_value p h g N (p ^ m) e (O.mul (power O x j) (a, va))
       ∙ ap (λ y. trace_by F (p ^ m) e ((field_values F).ops.mul y a)) (power_value p h g N x j)
@@ -154,8 +156,10 @@ module _ (p : ℕ) (h : IsPrime p) (g : List ℕ) (N : IsModulus p g) {B : Type 
       → (j : ℕ) × (j < e) × (trace_of O (p ^ m) e (O.mul (power O x j) (a, va))
       ≢ trace_of O (p ^ m) e (O.mul (power O x j) (b, vb)))
       → (j : ℕ) × (j < e)
-      × (trace_by F (p ^ m) e ((field_values F).ops.mul (power (field_values F).ops (generator F) j) a)
-      ≢ trace_by F (p ^ m) e ((field_values F).ops.mul (power (field_values F).ops (generator F) j) b))
+      × (trace_by F (p ^ m) e
+      ((field_values F).ops.mul (power (field_values F).ops (generator F) j) a)
+      ≢ trace_by F (p ^ m) e
+      ((field_values F).ops.mul (power (field_values F).ops (generator F) j) b))
   parted a b va vb (j, l, n) =
       (j, l, λ s. n (equal _ _ (trace_of_multiple j a va ∙ s ∙ sym (trace_of_multiple j b vb))))
 
@@ -187,10 +191,11 @@ module _ (p : ℕ) (h : IsPrime p) (g : List ℕ) (N : IsModulus p g) {B : Type 
 
 -- **over the prime field, by constants**
 pub prime_traces : (F : Field) (W : IsFiniteField F)
-    → TraceFacts F (λ (c : Element (residues F.characteristic)). constant F c.0) (degree_of F) (trace F)
-    (norm F)
-prime_traces F W = subst (λ q. TraceFacts F (λ (c : Element (residues F.characteristic)). constant F c.0)
-    (degree_of F) (trace_by F q (degree_of F)) (norm_by F q (degree_of F)))
+    → TraceFacts F (λ (c : Element (residues F.characteristic)). constant F c.0) (degree_of F)
+    (trace F) (norm F)
+prime_traces F W = subst
+    (λ q. TraceFacts F (λ (c : Element (residues F.characteristic)). constant F c.0) (degree_of F)
+    (trace_by F q (degree_of F)) (norm_by F q (degree_of F)))
     (pow_one F.characteristic)
     (trace_facts F.characteristic W.characteristic F.polynomial (modulus_of F W)
     (of_residue_homomorphism F.characteristic W.characteristic F.polynomial (modulus_of F W))

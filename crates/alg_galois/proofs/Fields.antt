@@ -5,6 +5,7 @@
 use Rattle.std.proofs.Common.{◌≡◌, ℕ, suc, ◌+◌, ◌%◌, ◌<◌, ◌≤◌, List, [], ◌∷◌, map, refl, ap, ap₂, sym, ◌∙◌, subst, arith, ◌*◌, length}
 use Rattle.std.proofs.Math.Nat.{one-mul, mod-eq_of_lt}
 use native.Mathlib.Nat.{mod-add-mod}
+use Rattle.std.proofs.lemmas.List.Elements.{All-nil, All-cons}
 use Rattle.alg_model.specs.Coefficients.{Ops, Carrier, power, residues, IsPrime}
 use Rattle.alg_model.specs.Polynomials.{evaluate}
 use Rattle.alg_model.specs.Factors.{IsMonic, IsIrreducible}
@@ -16,12 +17,11 @@ use Rattle.alg_rings.proofs.Homomorphisms.{Homomorphism, evaluate-map, power-map
 use Rattle.alg_rings.proofs.ResidueFields.{prime_residues_field, residues_propositional}
 use Rattle.alg_rings.proofs.Divisors.{Polynomial}
 use Rattle.alg_fields.proofs.ValueFields.{values_propositional}
+use Rattle.alg_fields.proofs.ValueConstants.{constant_value, constant_value_homomorphism}
 use Rattle.alg_finite.proofs.FiniteField.{FiniteField}
 use Rattle.alg_finite.proofs.Evaluation.{coefficients, evaluate_by}
 use Rattle.alg_finite.proofs.Values
 use Rattle.alg_finite.proofs.FiniteValues.{residues_finite, values_finite}
-use Rattle.alg_fields.proofs.ValueConstants.{constant_value, constant_value_homomorphism}
-use Rattle.std.proofs.lemmas.List.Elements.{All-nil, All-cons}
 
 pub record IsModulus (p : ℕ) (f : List ℕ) : Type 0 where
   pub monic : IsMonic (residues p) f

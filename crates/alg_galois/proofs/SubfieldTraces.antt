@@ -17,7 +17,8 @@ use Rattle.alg_galois.proofs.FieldTraces.{TraceFacts, trace_facts, sum_value, pr
 use Rattle.alg_galois.proofs.Embeddings.{of_two_fields, of_three_fields}
 use Rattle.alg_galois.proofs.EmbeddingRoots.{embedding_degree_divides}
 
--- with b for the trace or the norm of a over E: T b and M b, over a field below E, are T' a and M' a
+-- where b is the trace, or the norm, of a over E: T b and M b, over a field below E, are T' a and
+-- M' a
 pub record TowerFacts (E F : Field) (m : List (List ℕ)) (T M T' M' : List ℕ → List ℕ) : Type 0 where
   pub traces : (a b : List ℕ) → (field_values F).Valid a → (field_values E).Valid b
       → apply F m b ≡ trace_over E F a → apply F m (T b) ≡ T' a
@@ -55,7 +56,8 @@ module _ (p : ℕ) (h : IsPrime p) (f : List ℕ) (M : IsModulus p f) (g : List 
   -- **over a subfield, by its embedding**
   pub traces_over : TraceFacts (field_of p g)
       (λ (b : Element (field_values (field_of p f))). apply (field_of p g) m b.0)
-      (degree_of (field_of p g) / degree_of (field_of p f)) (trace_over (field_of p f) (field_of p g))
+      (degree_of (field_of p g) / degree_of (field_of p f))
+      (trace_over (field_of p f) (field_of p g))
       (norm_over (field_of p f) (field_of p g))
   traces_over = trace_facts p h g N H (finite p h f M) e size
 
@@ -86,7 +88,8 @@ module _ (p : ℕ) (h : IsPrime p) (f : List ℕ) (M : IsModulus p f) (g : List 
       → TowerFacts (field_of p f) (field_of p g) m (trace_by (field_of p f) q d)
       (norm_by (field_of p f) q d) (trace_by (field_of p g) q j) (norm_by (field_of p g) q j)
   towers_at q r d j s t u =
-      subst (λ i. TowerFacts E F m (trace_by E q d) (norm_by E q d) (trace_by F q i) (norm_by F q i)) u
+      subst (λ i. TowerFacts E F m (trace_by E q d) (norm_by E q d) (trace_by F q i)
+      (norm_by F q i)) u
       (subst (λ q. TowerFacts E F m (trace_by E q d) (norm_by E q d) (trace_by F q (d * e))
       (norm_by F q (d * e))) s (towers r d t))
 

@@ -5,13 +5,13 @@ use Rattle.std.proofs.Common.{◌≡◌, ◌⊎◌, ℕ, zero, suc, ◌+◌, ◌
 use Rattle.std.proofs.lemmas.Bool.{cases_eq}
 use Rattle.std.proofs.lemmas.Nat.Gcd.{dvd_refl, dvd_trans, dvd_antisymm, le_of_dvd}
 use Prim.Native.Nat.{◌∣◌}
+use Rattle.alg_rings.proofs.Decisions.{Least, search_below, divides_or_not, both_or_not}
 use Rattle.alg_lattices.specs.Embeddings.{Embeddings, EmbeddingLaws, FrobeniusLaws}
 use Rattle.alg_lattices.specs.Lattices.{Lattice, Compatible, IsDecided}
 use Rattle.alg_lattices.specs.Filling.{IsCandidate, IsMember, IsClosureDegree, IsMissing, AreMissing}
 use Rattle.alg_lattices.specs.Filling.IsMember.{of_source, of_target}
 use Rattle.alg_lattices.specs.Filling.IsClosureDegree.{of_member, of_gcd}
 use Rattle.alg_lattices.proofs.Congruences.{Bezout, bezout}
-use Rattle.alg_rings.proofs.Decisions.{Least, search_below, divides_or_not, both_or_not}
 use Rattle.alg_lattices.proofs.RisingLists.{Listed, listed, rising_one}
 use Rattle.alg_lattices.proofs.Closure.{member_or_not}
 
@@ -136,7 +136,9 @@ bound_below o row (suc n) = further (bound_below o row n)
     further (b, below) = (
       b + o.degree (row n),
       λ i h. ⊎_elim
-          (λ (e : i ≡ n). let f : o.degree (row i) ≡ o.degree (row n) = ap (λ j. o.degree (row j)) e in omega arith)
+          (λ (e : i ≡ n).
+          let f : o.degree (row i) ≡ o.degree (row n) = ap (λ j. o.degree (row j)) e in
+          omega arith)
           (λ k. let l : o.degree (row i) ≤ b = below i (omega arith) in omega arith)
           (cases_eq i n),
     )
@@ -147,7 +149,8 @@ pub missing_list : {Field Map : Type 0} {o : Embeddings Field Map} {primes : ℕ
     → EmbeddingLaws o → FrobeniusLaws o → Compatible o primes L → IsDecided L → (E F : ℕ)
     → (ds : List ℕ) × AreMissing o L E F ds
 missing_list {o = o} {L = L} law frobenius C D E F =
-    let l : Listed (IsMissing o L E F) (suc bound.0) = listed (IsMissing o L E F) (missing_or_not D E F within) (suc bound.0) in
+    let l : Listed (IsMissing o L E F) (suc bound.0) =
+    listed (IsMissing o L E F) (missing_or_not D E F within) (suc bound.0) in
     (l.list, record { rising = l.rising; exactly = λ d. (l.holds, λ m. l.all (small m) m) })
   where
     bound : (b : ℕ) × ((i : ℕ) → i < L.count → o.degree (L.row i) ≤ b)

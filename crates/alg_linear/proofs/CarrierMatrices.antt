@@ -9,12 +9,12 @@ use Rattle.alg_model.specs.Matrices.{Matrix, column_at, entry, zero_column, unit
 use Rattle.alg_rings.proofs.Validity.{place_valid}
 use Rattle.alg_rings.proofs.Elements.{Element, element_ops, underlying_homomorphism}
 use Rattle.alg_rings.proofs.ValidEntries.{columns_valid_at}
+use Rattle.alg_rings.proofs.Folds.{sums_kept, fold-map}
 use Rattle.alg_linear.specs.PrivateElimination.{grid}
 use Rattle.alg_linear.specs.PrivateGrids.{total}
 use Rattle.alg_linear.proofs.Sums.{total_same}
 use Rattle.alg_linear.specs.PrivateGrids.{delta, grid_apply}
 use Rattle.alg_linear.proofs.Columns.{AreLong, length_combination, combination_at, length_zero_column, zero_column_at, length_unit_column, unit_column_at, column_of_product, column_of_identity, length_identity, length_product}
-use Rattle.alg_rings.proofs.Folds.{sums_kept, fold-map}
 
 -- all columns of a matrix have its number of rows
 pub matrix_long : {A : Type 0} (c : Carrier A) (m : Matrix A) → IsMatrix c m → AreLong m.rows m.columns

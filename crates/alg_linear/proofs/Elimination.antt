@@ -2,15 +2,15 @@
 use Rattle.std.proofs.Common.{◌≡◌, ◌≢◌, ℕ, ◌+◌, ◌<◌, ◌≤◌, cond, List, [], ◌∷◌, ◌++◌, length, get_or, set, All, refl, ap, ap₂, sym, ◌∙◌, ⊎_elim, arith}
 use Rattle.std.specs.List.{swap}
 use Rattle.std.proofs.lemmas.Bool.{cases_eq, eq-eqb, ne_eqb}
-use Rattle.alg_rings.proofs.Rings.{zero_mul, add_zero}
-use Rattle.alg_rings.proofs.Validity.{scale_valid}
-use Rattle.alg_rings.proofs.CarrierPolynomials.{sum_at, scale_at}
 use Rattle.std.proofs.lemmas.List.{length-set, get_or-set_same, get_or-set_other}
 use Rattle.std.proofs.lemmas.List.Edits.{swap_is}
 use Rattle.alg_model.specs.Coefficients.{Ops, Carrier}
 use Rattle.alg_model.specs.Polynomials.{sum, scale}
 use Rattle.alg_model.specs.Fields.{IsRing}
 use Rattle.alg_model.specs.Matrices.{IsColumn}
+use Rattle.alg_rings.proofs.Rings.{zero_mul, add_zero}
+use Rattle.alg_rings.proofs.Validity.{scale_valid}
+use Rattle.alg_rings.proofs.CarrierPolynomials.{sum_at, scale_at}
 use Rattle.alg_rings.specs.Laws.{IsPropositional}
 use Rattle.alg_rings.proofs.Elements.{Element, underlying_injective, on_elements}
 use Rattle.alg_linear.specs.PrivateGrids.{RowEquivalent}

@@ -3,8 +3,8 @@ use Rattle.std.proofs.Common.{◌≡◌, ◌≢◌, ℕ, zero, suc, ◌<◌, ref
 use Rattle.alg_model.specs.Coefficients.{Ops}
 use Rattle.alg_rings.specs.Laws.{RingLaws}
 use Rattle.alg_rings.proofs.Rings.{add_zero, mul_zero, neg_zero, neg_sum}
-use Rattle.alg_linear.specs.PrivateGrids.{total}
 use Rattle.alg_rings.proofs.Folds.{sums, fold_same, fold_unit, fold_both, fold_swap, fold_last}
+use Rattle.alg_linear.specs.PrivateGrids.{total}
 
 pub total_same : {A : Type 0} (o : Ops A) (n : ℕ) (f g : ℕ → A) → ((k : ℕ) → k < n → f k ≡ g k) → total o n f ≡ total o n g
 total_same o n f g h = fold_same o.zero o.add n f g h

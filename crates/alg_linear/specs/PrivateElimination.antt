@@ -10,8 +10,8 @@ use Rattle.alg_model.specs.Coefficients.{Carrier}
 use Rattle.alg_model.specs.Fields.{IsRing}
 use Rattle.alg_model.specs.Matrices.{IsColumn}
 use Rattle.alg_rings.proofs.Elements.{Element, element_ops}
-use Rattle.alg_linear.specs.PrivateGrids.{RowEquivalent, IsReducedTo}
 use Rattle.alg_rings.proofs.ValidEntries.{columns_valid_at}
+use Rattle.alg_linear.specs.PrivateGrids.{RowEquivalent, IsReducedTo}
 
 module _ {A : Type 0} {c : Carrier A} (R : IsRing c) where
   -- the entries of columns, as elements
