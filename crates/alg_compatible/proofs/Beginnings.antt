@@ -7,7 +7,7 @@ use Rattle.alg_model.specs.Maps.{identity_map}
 use Rattle.alg_model.specs.Lattices.{Edition, Lattice, Row, field_at, prime_row, Stored, IsRow, IsRows, Compatible}
 use Rattle.alg_model.specs.Declaring.{IsOpening, IsDeclared, IsStoredWith, prime_map}
 use Rattle.alg_model.specs.Declaring.IsStoredWith.{kept, itself, of_prime}
-use Rattle.alg_lattices.proofs.Decisions.{both_or_not}
+use Rattle.alg_rings.proofs.Decisions.{both_or_not}
 use Rattle.alg_compatible.proofs.Transfer.{lattice_decided, stored_one, primes_within, prime_row_at}
 use Rattle.alg_compatible.proofs.Tables.{Pairs, pairs_map, pairs_map_has}
 

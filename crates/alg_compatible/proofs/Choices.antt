@@ -11,10 +11,10 @@ use Rattle.alg_model.specs.Lattices.{Lattice, Compatible, Stored, field_at, IsRo
 use Rattle.alg_model.specs.Candidates.{map_sending, IsSent, IsCandidate, IsChoice}
 use Rattle.alg_rings.proofs.Elements.{Element}
 use Rattle.alg_rings.proofs.PolynomialOrder.{order_by_total, order_by_same, nat_cmp_same}
+use Rattle.alg_rings.proofs.Decisions.{both_or_not, all_or_not, lists_equal_or_not}
 use Rattle.alg_finite.proofs.LeastMembers.{least_member}
 use Rattle.alg_galois.proofs.Fields.{modulus_of, finite}
 use Rattle.alg_galois.proofs.EmbeddingRoots.{embedding_of_root, generator_image_root}
-use Rattle.alg_lattices.proofs.Decisions.{both_or_not, all_or_not, lists_equal_or_not}
 use Rattle.alg_compatible.proofs.Transfer.{lattice_decided, stored_one, field_finite}
 
 -- values of which neither comes before the other are equal

@@ -8,13 +8,13 @@ use Rattle.alg_model.specs.Lattices.{Lattice, Row, no_row, field_at, made_name, 
 use Rattle.alg_model.specs.Candidates.{AreMissing}
 use Rattle.alg_model.specs.Filling.{IsMadeRow, AreRowsAfter, IsFilled}
 use Rattle.alg_lattices.specs.Filling as Theory
-use Rattle.alg_galois.proofs.Meets.{degree_positive}
-use Rattle.alg_galois.proofs.LeastIrreducible.{least_irreducible_exists}
 use Rattle.alg_lattices.proofs.ForcedMaps.{Setting}
 use Rattle.alg_lattices.proofs.StoredMaps
 use Rattle.alg_lattices.proofs.Filling.{setting}
 use Rattle.alg_lattices.proofs.MissingDegrees.{missing_list, closure_divides_target}
 use Rattle.alg_lattices.proofs.Decided.{filled_decided}
+use Rattle.alg_galois.proofs.Meets.{degree_positive}
+use Rattle.alg_galois.proofs.LeastIrreducible.{least_irreducible_exists}
 use Rattle.alg_compatible.proofs.FiniteFields.{finite_fields, embedding_laws, frobenius_laws}
 use Rattle.alg_compatible.proofs.Transfer.{lattice_of, lattice_decided, to_theory, field_finite}
 use Rattle.alg_compatible.proofs.Insertions.{insertion_of, to_stored, from_stored, from_list, to_closure}
@@ -76,7 +76,8 @@ pub rows_exist : {L : Lattice} → IsRows L.edition L.rows → Compatible L → 
     → Theory.IsCandidate finite_fields (lattice_of L) E F phi
     → (rows : List Row) × AreRowsAfter L E F rows
 rows_exist {L} R C E F t phi c =
-    let (ds, a) = missing_list embedding_laws frobenius_laws (to_theory L R C) (lattice_decided L) c in
+    let (ds, a) =
+    missing_list embedding_laws frobenius_laws (to_theory L R C) (lattice_decided L) E F in
     let r = added ds (from_list a) in (
       L.rows ++ r.rows,
       record {

@@ -1,10 +1,10 @@
 -- The laws, each from its lemma; the statements and what they say are in specs/Theorems.antt.
 use Rattle.std.proofs.Common.{ℕ, ◌≤◌, List, length, Option, sym, subst}
-use Rattle.alg_model.specs.Lattices.{Lattice, Row, IsRows}
+use Rattle.alg_model.specs.Lattices.{Lattice, Row, IsRows, IsCompatible}
 use Rattle.alg_model.specs.Candidates.{embedding_by, IsCandidate}
 use Rattle.alg_model.specs.Filling.{AreRowsAfter}
 use Rattle.alg_lattices.proofs.MissingDegrees as Theory
-use Rattle.alg_compatible.specs.Theorems.{IsCompatible, AreFields, OpeningIsCompatible, DeclaringKeepsCompatible, DeclaringKeepsRows, FillingKeepsCompatible, FillingKeepsRows, FillingIsByRules, PlainEmbeddingExists, ChoiceExists, ChoiceIsUnique, MissingDegreesExist, MissingDegreesAreUnique, AddedFieldsAreForced, AddedMapsAreForced, StoredPairChangesNothing, OpeningIsDetermined, DeclaringIsDetermined, FillingIsDetermined, FillingExists, OpeningExists, DeclaringExists}
+use Rattle.alg_compatible.specs.Theorems.{AreFields, EditionsAreEditions, OpeningIsCompatible, DeclaringKeepsCompatible, DeclaringKeepsRows, FillingKeepsCompatible, FillingKeepsRows, FillingIsByRules, PlainEmbeddingExists, ChoiceExists, ChoiceIsUnique, MissingDegreesExist, MissingDegreesAreUnique, AddedFieldsAreForced, AddedMapsAreForced, StoredPairChangesNothing, OpeningIsDetermined, DeclaringIsDetermined, FillingIsDetermined, FillingExists, OpeningExists, DeclaringExists}
 use Rattle.alg_compatible.proofs.FiniteFields.{embedding_laws, frobenius_laws}
 use Rattle.alg_compatible.proofs.Transfer.{lattice_decided, to_theory}
 use Rattle.alg_compatible.proofs.Insertions.{to_list, from_list}
@@ -15,6 +15,7 @@ use Rattle.alg_compatible.proofs.Filling as Filling
 use Rattle.alg_compatible.proofs.Determined as Determined
 use Rattle.alg_compatible.proofs.Existence as Existence
 use Rattle.alg_compatible.proofs.Beginnings as Beginnings
+use Rattle.alg_compatible.proofs.Editions as Editions
 use Rattle.alg_compatible.proofs.Rules as Rules
 use Rattle.alg_compatible.proofs.RowsAfter as RowsAfter
 use Rattle.alg_compatible.proofs.Additions as Additions
@@ -35,8 +36,13 @@ inserted C A c R = record {
   after = R;
 }
 
+pub editions_law : EditionsAreEditions
+editions_law = (Editions.first_is_edition, Editions.second_is_edition)
+
 pub opening_law : OpeningIsCompatible
-opening_law L R O = Declaring.opening_is_compatible R O
+opening_law L e O =
+    let R : IsRows L.edition L.rows = Editions.opening_rows e O in
+    record { rows = R; compatible = Declaring.opening_is_compatible R O }
 
 pub declaring_law : DeclaringKeepsCompatible
 declaring_law L M row C R n D =
@@ -67,8 +73,9 @@ pub choice_one_law : ChoiceIsUnique
 choice_one_law L E F sending v w c d = Choosing.choice_one c d
 
 pub missing_law : MissingDegreesExist
-missing_law L E F sending v C A c =
-    let (ds, a) = Theory.missing_list embedding_laws frobenius_laws (to_theory L C.rows C.compatible) (lattice_decided L) (to_candidate C.rows A.source A.target c) in
+missing_law L E F C =
+    let (ds, a) = Theory.missing_list embedding_laws frobenius_laws
+    (to_theory L C.rows C.compatible) (lattice_decided L) E F in
     (ds, from_list a)
 
 pub missing_one_law : MissingDegreesAreUnique

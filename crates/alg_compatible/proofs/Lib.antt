@@ -13,4 +13,5 @@ pub mod Tables
 pub mod Determined
 pub mod Existence
 pub mod Beginnings
+pub mod Editions
 pub mod Laws

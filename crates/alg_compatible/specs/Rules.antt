@@ -1,7 +1,8 @@
 -- What is stored after an insertion, by a rule for each kind of pair: members, maps out of them,
 -- all else.
 --     IsSubfield L E F phi rows i       i has a map into F
---     IsWay L E F phi rows i k j        j has one, its degree is a multiple of i's, and it had a map into k before
+--     IsWay L E F phi rows i k j        j has one, its degree is a multiple of i's, and it had a
+--                                       map into k before
 --     IsStoredByRules L E F phi rows i k m
 use Rattle.std.specs.Prelude.{ℕ, ◌<◌, List}
 use Prim.Native.Nat.{◌∣◌}

@@ -2,25 +2,25 @@
 use Rattle.std.specs.Prelude.{◌≡◌, ◌≢◌, ◌↔◌, ℕ, ◌<◌, ◌≤◌, List, length, slice_index_or, Option, None}
 use Prim.Native.Nat.{◌∣◌}
 use Rattle.alg_model.specs.Maps.{degree_of}
-use Rattle.alg_model.specs.Lattices.{Edition, Lattice, Row, no_row, field_at, Stored, Grows, IsRow, IsRows, Compatible}
+use Rattle.alg_model.specs.Lattices.{Edition, first_edition, second_edition, Lattice, Row, no_row, field_at, Stored, Grows, IsEdition, IsRow, IsRows, Compatible, IsCompatible}
 use Rattle.alg_model.specs.Candidates.{embedding_by, IsCandidate, IsChoice, IsMissing, AreMissing}
 use Rattle.alg_model.specs.Filling.{AreRowsAfter, IsStoredAfter, IsFilled}
 use Rattle.alg_model.specs.Declaring.{IsOpening, IsDeclared}
 use Rattle.alg_compatible.specs.Rules.{IsStoredByRules}
-
--- a compatible lattice, with rows of its edition
-pub record IsCompatible (L : Lattice) : Type 0 where
-  pub rows : IsRows L.edition L.rows
-  pub compatible : Compatible L
 
 -- two numbers of its fields
 pub record AreFields (L : Lattice) (E F : ℕ) : Type 0 where
   pub source : E < length L.rows
   pub target : F < length L.rows
 
--- The prime fields with their identities are a compatible lattice.
+-- Both editions are editions.
+abbrev pub EditionsAreEditions : Type 0
+EditionsAreEditions = IsEdition first_edition × IsEdition second_edition
+
+-- The prime fields of an edition are rows of it, and with their identities they are a compatible
+-- lattice.
 abbrev pub OpeningIsCompatible : Type 0
-OpeningIsCompatible = (L : Lattice) → IsRows L.edition L.rows → IsOpening L → Compatible L
+OpeningIsCompatible = (L : Lattice) → IsEdition L.edition → IsOpening L → IsCompatible L
 
 -- Declaring a field of the edition that is no prime field leaves a compatible lattice compatible,
 -- and it grows.
@@ -81,10 +81,9 @@ abbrev pub ChoiceIsUnique : Type 0
 ChoiceIsUnique = (L : Lattice) (E F : ℕ) (sending : Option (List ℕ × List ℕ)) (v w : List ℕ)
     → IsChoice L E F sending v → IsChoice L E F sending w → v ≡ w
 
--- There is a list of the missing degrees.
+-- For each two fields there is a list of the missing degrees.
 abbrev pub MissingDegreesExist : Type 0
-MissingDegreesExist = (L : Lattice) (E F : ℕ) (sending : Option (List ℕ × List ℕ)) (v : List ℕ)
-    → IsCompatible L → AreFields L E F → IsCandidate L E F sending v
+MissingDegreesExist = (L : Lattice) (E F : ℕ) → IsCompatible L
     → (ds : List ℕ) × AreMissing L E F ds
 
 -- There is only one.

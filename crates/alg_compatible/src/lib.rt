@@ -1,14 +1,27 @@
-//! Lattices of finite fields: the theory of compatible lattices for the fields and maps of the model, and the laws that a reader
-//! of their contracts may want, as contracts of functions that do nothing.
+//! Lattices of finite fields: the theory of compatible lattices for the fields and maps of the
+//! model, and the laws that a reader of their contracts may want, as contracts of functions that do
+//! nothing.
 #![tactic(auto)]
 
-ghost use Rattle.alg_compatible.specs.Theorems.{OpeningIsCompatible, DeclaringKeepsCompatible, DeclaringKeepsRows, FillingKeepsCompatible};
-ghost use Rattle.alg_compatible.specs.Theorems.{FillingKeepsRows, FillingIsByRules, PlainEmbeddingExists, ChoiceExists};
-ghost use Rattle.alg_compatible.specs.Theorems.{ChoiceIsUnique, MissingDegreesExist, MissingDegreesAreUnique, AddedFieldsAreForced};
-ghost use Rattle.alg_compatible.specs.Theorems.{AddedMapsAreForced, StoredPairChangesNothing, OpeningIsDetermined, DeclaringIsDetermined};
-ghost use Rattle.alg_compatible.specs.Theorems.{FillingIsDetermined, FillingExists, OpeningExists, DeclaringExists};
+ghost use Rattle.alg_compatible.specs.Theorems.{OpeningIsCompatible, DeclaringKeepsCompatible};
+ghost use Rattle.alg_compatible.specs.Theorems.{DeclaringKeepsRows, FillingKeepsCompatible};
+ghost use Rattle.alg_compatible.specs.Theorems.{FillingKeepsRows, FillingIsByRules};
+ghost use Rattle.alg_compatible.specs.Theorems.{PlainEmbeddingExists, ChoiceExists, ChoiceIsUnique};
+ghost use Rattle.alg_compatible.specs.Theorems.{MissingDegreesExist, MissingDegreesAreUnique};
+ghost use Rattle.alg_compatible.specs.Theorems.{AddedFieldsAreForced, AddedMapsAreForced};
+ghost use Rattle.alg_compatible.specs.Theorems.{StoredPairChangesNothing, OpeningIsDetermined};
+ghost use Rattle.alg_compatible.specs.Theorems.{DeclaringIsDetermined, FillingIsDetermined};
+ghost use Rattle.alg_compatible.specs.Theorems.{FillingExists, OpeningExists, DeclaringExists};
+ghost use Rattle.alg_compatible.specs.Theorems.{EditionsAreEditions};
 
-/// The prime fields with their identities are a compatible lattice, the one opening lattice of their edition.
+/// The two editions are editions: their characteristics are different primes, and there is room for
+/// their prime fields.
+pub fn editions_are_editions()
+    ensures both { EditionsAreEditions }
+{}
+
+/// The prime fields of an edition with their identities are a compatible lattice with rows of the
+/// edition, the one opening lattice of it.
 pub fn opening_is_compatible()
     ensures compatible { OpeningIsCompatible }
     ensures exists { OpeningExists }
@@ -23,8 +36,8 @@ pub fn declaring_keeps_compatible()
     ensures determined { DeclaringIsDetermined }
 {}
 
-/// Filling a compatible lattice by a candidate leaves it compatible, and stores what the rules for members, for maps out of them
-/// and for all else say.
+/// Filling a compatible lattice by a candidate leaves it compatible, and stores what the rules for
+/// members, for maps out of them and for all else say.
 pub fn filling_keeps_compatible()
     ensures compatible { FillingKeepsCompatible }
     ensures rows { FillingKeepsRows }
@@ -33,15 +46,16 @@ pub fn filling_keeps_compatible()
     ensures determined { FillingIsDetermined }
 {}
 
-/// The extension theorem: where one field of a compatible lattice has an embedding into another at all, it has one that agrees with
-/// all common subfields; among all that do, one is the first.
+/// The extension theorem: where one field of a compatible lattice has an embedding into another at
+/// all, it has one that agrees with all common subfields; among all that do, one is the first.
 pub fn plain_embedding_exists()
     ensures candidate { PlainEmbeddingExists }
     ensures choice { ChoiceExists }
     ensures unique { ChoiceIsUnique }
 {}
 
-/// The degrees that a lattice lacks once a map is added: there is one list of them.
+/// The degrees that a lattice lacks below two fields: there is one list of them, whether or not the
+/// fields have a candidate.
 pub fn missing_degrees_are_determined()
     ensures exists { MissingDegreesExist }
     ensures unique { MissingDegreesAreUnique }

@@ -1,9 +1,9 @@
 -- Whether an element has a proper factor, where the smaller elements stand in a list.
-use Rattle.std.proofs.Common.{◌≡◌, ◌≢◌, ◌⊎◌, ⊎_elim, inl, inr, ℕ, ◌<◌, sym, ap, ◌∙◌, subst, arith, List, [], ◌∷◌, Contains}
+use Rattle.std.proofs.Common.{◌≢◌, ◌⊎◌, ⊎_elim, inl, inr, ℕ, ◌<◌, sym, subst, arith, List, [], ◌∷◌, Contains}
 use Rattle.std.proofs.lemmas.Bool.{cases_lt}
 use Rattle.std.proofs.lemmas.List.Elements.{Contains-append_cases}
 use Rattle.alg_model.specs.Coefficients.{Ops}
-use Rattle.alg_rings.proofs.Rings.{zero_or_not, same_from_difference}
+use Rattle.alg_rings.proofs.Rings.{zero_or_not, equal_or_not}
 use Rattle.alg_rings.proofs.Divisibility.{Divides}
 use Rattle.alg_divisors.proofs.Euclidean.{EuclideanLaws, normal, monic_unique, divides_or_not}
 use Rattle.alg_divisors.proofs.Irreducible.{ProperFactor, FactorOrNone}
@@ -14,12 +14,6 @@ module _ {R : Type 0} {o : Ops R} {size : R → ℕ} {Monic : R → Type 0} (E :
 
   infixl 60 ◌⊕◌
   infixl 70 ◌⊗◌
-  pub same_or_not : (x y : R) → (x ≡ y) ⊎ (x ≢ y)
-  same_or_not x y = ⊎_elim
-      (λ e. inl (same_from_difference E.ring x y e))
-      (λ n. inr (λ e. n (ap (λ t. t ⊕ neg y) e ∙ E.ring.add_neg y)))
-      (zero_or_not o E.ring.zero_test (x ⊕ neg y))
-
   pub monic_or_not : (x : R) → Monic x ⊎ (Monic x → ⊥)
   monic_or_not x = ⊎_elim
       (λ e. inr (λ m. E.zero_not_monic (subst Monic e m)))
@@ -30,7 +24,7 @@ module _ {R : Type 0} {o : Ops R} {size : R → ℕ} {Monic : R → Type 0} (E :
       other n m = ⊎_elim
           (λ e. inl (subst Monic (sym e) m.1))
           (λ d. inr (λ k. d (monic_unique E m.2 m.3 k m.1)))
-          (same_or_not x m.0)
+          (equal_or_not E.ring x m.0)
 
   pub proper_or_not : (f g : R) → ProperFactor o size Monic f g ⊎ (ProperFactor o size Monic f g → ⊥)
   proper_or_not f g = ⊎_elim

@@ -1,5 +1,5 @@
 -- The polynomials over a field have division with remainder by their numbers of coefficients, and a monic associate each.
-use Rattle.std.proofs.Common.{◌≡◌, ◌≢◌, ◌<◌, sym, refl, ap, ap₂, ◌∙◌, arith, List, [], ◌∷◌, length}
+use Rattle.std.proofs.Common.{◌≡◌, ◌≢◌, ◌<◌, sym, refl, ap, ap₂, ◌∙◌, arith, List, [], ◌∷◌, length, ℕ}
 use Rattle.std.proofs.lemmas.List.{nil_from_length}
 use Rattle.std.proofs.lemmas.List.Elements.{All-nil, All-cons}
 use Rattle.alg_model.specs.Coefficients.{Ops, Carrier}
@@ -73,3 +73,19 @@ module _ {A : Type 0} {c : Carrier A} (P : IsPropositional c) (F : IsField c) wh
     monic_unit = λ u m e. same_polynomial P F.ring u Q.one (single u.0 e ∙ ap (λ t. t ∷ []) m ∙ sym one_is);
     normalize = λ a n. normalized a (F.inverse (leading c.ops a.0) (leading_valid F.ring a.0 a.1.0) (leading_not_zero P F.ring a.0 a.1 (not_nil a n)));
   }
+
+-- the polynomials over a field as one value, of which a section opens what it speaks of under short
+-- names
+pub record OverField {A : Type 0} (c : Carrier A) : Type 1 where
+  pub ops : Ops (Polynomial c)
+  pub size : Polynomial c → ℕ
+  pub Monic : Polynomial c → Type 0
+  pub laws : EuclideanLaws ops size Monic
+
+abbrev pub over_field : {A : Type 0} {c : Carrier A} → IsPropositional c → IsField c → OverField c
+over_field {c = c} P F = record {
+  ops = polynomial_ops P F.ring;
+  size = λ f. length f.0;
+  Monic = λ f. IsMonic c f.0;
+  laws = polynomials_euclidean P F;
+}

@@ -4,38 +4,27 @@ use Rattle.std.proofs.Common.{◌≡◌, ◌⊎◌, ⊎_elim, inl, inr, ℕ, ◌
 use Rattle.std.proofs.lemmas.List.Elements.{All-nil, All-cons, All-head, All-tail, All-map, All-weaker}
 use Rattle.std.proofs.lemmas.Cmp.{on_total}
 use Rattle.std.specs.Cmp.{IsTotalOrder}
-use Rattle.alg_model.specs.Coefficients.{Ops, Carrier}
+use Rattle.alg_model.specs.Coefficients.{Carrier}
 use Rattle.alg_model.specs.Polynomials.{trim}
 use Rattle.alg_model.specs.Factors.{IsPolynomial, IsMonic, Divides, IsProperFactor, IsIrreducible, IsLeastFactor, order_by}
 use Rattle.alg_model.specs.Fields.{IsField}
 use Rattle.alg_rings.specs.Laws.{IsPropositional}
 use Rattle.alg_rings.proofs.CarrierPolynomials.{trim_polynomial}
-use Rattle.alg_rings.proofs.Divisors.{Polynomial, polynomial_ops, same_polynomial}
-use Rattle.alg_divisors.specs.Factorization.{IsFactorization}
+use Rattle.alg_rings.proofs.Divisors.{Polynomial, same_polynomial}
 use Rattle.alg_rings.proofs.Divisibility
-use Rattle.alg_divisors.proofs.Euclidean
+use Rattle.alg_rings.proofs.PolynomialOrder.{order_by_total}
+use Rattle.alg_divisors.specs.Factorization.{IsFactorization}
 use Rattle.alg_divisors.proofs.Irreducible.{FactorOrNone}
 use Rattle.alg_divisors.proofs.Factorization
 use Rattle.alg_divisors.proofs.Least
-use Rattle.alg_rings.proofs.PolynomialOrder.{order_by_total}
 use Rattle.alg_divisors.proofs.Decisions.{decided_by_list}
-use Rattle.alg_divisors.proofs.EuclideanPolynomials.{polynomials_euclidean}
+use Rattle.alg_divisors.proofs.EuclideanPolynomials.{over_field}
 use Rattle.alg_divisors.proofs.PolynomialFactors.{divides_to, proper_to, proper_from, irreducible_to, MonicIrreducible, product_of-map}
 use Rattle.alg_divisors.proofs.LeastFactors.{contains-map, contains_from_map, smaller_first, least_to}
 use Rattle.alg_divisors.proofs.Finite.{IsFinite, lists_below, lists_below_all, lists_below_contain}
 
 module _ {A : Type 0} {c : Carrier A} (P : IsPropositional c) (F : IsField c) (K : IsFinite c) where
-  abbrev Q : Ops (Polynomial c)
-  Q = polynomial_ops P F.ring
-
-  abbrev size : Polynomial c → ℕ
-  size f = length f.0
-
-  abbrev Monic : Polynomial c → Type 0
-  Monic f = IsMonic c f.0
-
-  abbrev E : Euclidean.EuclideanLaws (polynomial_ops P F.ring) (λ f. length f.0) (λ f. IsMonic c f.0)
-  E = polynomials_euclidean P F
+  open over_field P F use {ops as Q, size, Monic, laws as E}
 
   -- ---- the polynomials of fewer than n coefficients
   all_below : ℕ → List (List A)

@@ -1,20 +1,20 @@
 -- The least factor of a polynomial over a carrier: there is at most one, it is irreducible, and it is the first of the
 -- factors in a factorization.
-use Rattle.std.proofs.Common.{◌≡◌, ℕ, ◌<◌, ◌≤◌, sym, refl, ap, ◌∙◌, subst, arith, List, length, map, get_or, Contains, Ordering, Less, Equal, Greater}
+use Rattle.std.proofs.Common.{◌≡◌, ◌<◌, ◌≤◌, sym, refl, ap, ◌∙◌, subst, arith, List, length, map, get_or, Contains, Ordering, Less, Equal, Greater}
 use Rattle.std.proofs.lemmas.List.{get_or-map, length-map}
 use Rattle.std.proofs.lemmas.List.Elements.{Contains-get_or}
 use Rattle.std.specs.Ordering.{ordering_reverse}
 use Rattle.std.specs.Cmp.{IsTotalOrder}
-use Rattle.alg_model.specs.Coefficients.{Ops, Carrier}
+use Rattle.alg_model.specs.Coefficients.{Carrier}
 use Rattle.alg_model.specs.Factors.{IsMonic, IsIrreducible, IsLeastFactor, order_by}
 use Rattle.alg_model.specs.Fields.{IsField}
 use Rattle.alg_rings.specs.Laws.{IsPropositional}
 use Rattle.alg_rings.proofs.Divisors.{Polynomial, polynomial_ops, divided_is_polynomial}
+use Rattle.alg_rings.proofs.PolynomialOrder.{order_by_total, order_by_same, order_by_shorter, order_by_not_longer}
 use Rattle.alg_divisors.specs.Factorization.{IsFactorization}
 use Rattle.alg_divisors.proofs.Factorization
 use Rattle.alg_divisors.proofs.Least
-use Rattle.alg_rings.proofs.PolynomialOrder.{order_by_total, order_by_same, order_by_shorter, order_by_not_longer}
-use Rattle.alg_divisors.proofs.EuclideanPolynomials.{polynomials_euclidean}
+use Rattle.alg_divisors.proofs.EuclideanPolynomials.{polynomials_euclidean, over_field}
 use Rattle.alg_divisors.proofs.PolynomialFactors.{Members, members_of_factorization, product_of_members, proper_to, proper_from, irreducible_to}
 
 -- members of a list and of its image
@@ -36,14 +36,7 @@ least_factor_unique {A} {c} {cmp} T same {f} {g} {h} p q = compared (order_by cm
     compared Greater e = absurd (p.least h q.factor ((order_by_total T).antisymm h g ∙ ap ordering_reverse e))
 
 module _ {A : Type 0} {c : Carrier A} (P : IsPropositional c) (F : IsField c) (cmp : A → A → Ordering) where
-  abbrev Q : Ops (Polynomial c)
-  Q = polynomial_ops P F.ring
-
-  abbrev size : Polynomial c → ℕ
-  size f = length f.0
-
-  abbrev Monic : Polynomial c → Type 0
-  Monic f = IsMonic c f.0
+  open over_field P F use {ops as Q, size, Monic}
 
   abbrev pub Before : Polynomial c → Polynomial c → Type 0
   Before f g = order_by cmp f.0 g.0 ≡ Less

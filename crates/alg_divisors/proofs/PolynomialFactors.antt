@@ -1,33 +1,22 @@
 -- Divisors of polynomials over a field: greatest common divisors, Bezout, Euclid's lemma, Chinese remainders, factorizations.
-use Rattle.std.proofs.Common.{◌≡◌, ◌⊎◌, ⊎_elim, inl, inr, ℕ, sym, refl, ap, ◌∙◌, subst, List, [], ◌∷◌, length, map, All, IsPermutation}
+use Rattle.std.proofs.Common.{◌≡◌, ◌⊎◌, ⊎_elim, inl, inr, sym, refl, ap, ◌∙◌, subst, List, [], ◌∷◌, length, map, All, IsPermutation}
 use Rattle.std.proofs.lemmas.List.Elements.{All-nil, All-cons, All-head, All-tail}
 use Rattle.std.proofs.lemmas.List.Sorted.{IsPermutation-map}
-use Rattle.alg_model.specs.Coefficients.{Ops, Carrier}
+use Rattle.alg_model.specs.Coefficients.{Carrier}
 use Rattle.alg_model.specs.Polynomials.{trim, poly_product, poly_difference}
 use Rattle.alg_model.specs.Factors.{IsPolynomial, IsMonic, Divides, IsGreatestCommonDivisor, IsProperFactor, IsIrreducible}
 use Rattle.alg_model.specs.Fields.{IsField}
 use Rattle.alg_rings.specs.Laws.{IsPropositional}
 use Rattle.alg_rings.proofs.Divisors.{Polynomial, polynomial_ops, same_polynomial, divided_is_polynomial}
-use Rattle.alg_divisors.specs.Factorization.{product_of, IsFactorization, IsCombination, AreCoprime}
 use Rattle.alg_rings.proofs.Divisibility
-use Rattle.alg_divisors.proofs.Euclidean
+use Rattle.alg_divisors.specs.Factorization.{product_of, IsFactorization, IsCombination, AreCoprime}
 use Rattle.alg_divisors.proofs.Gcd
 use Rattle.alg_divisors.proofs.Irreducible
 use Rattle.alg_divisors.proofs.Factorization
-use Rattle.alg_divisors.proofs.EuclideanPolynomials.{polynomials_euclidean}
+use Rattle.alg_divisors.proofs.EuclideanPolynomials.{over_field}
 
 module _ {A : Type 0} {c : Carrier A} (P : IsPropositional c) (F : IsField c) where
-  abbrev Q : Ops (Polynomial c)
-  Q = polynomial_ops P F.ring
-
-  abbrev size : Polynomial c → ℕ
-  size f = length f.0
-
-  abbrev Monic : Polynomial c → Type 0
-  Monic f = IsMonic c f.0
-
-  abbrev E : Euclidean.EuclideanLaws (polynomial_ops P F.ring) (λ f. length f.0) (λ f. IsMonic c f.0)
-  E = polynomials_euclidean P F
+  open over_field P F use {ops as Q, size, Monic, laws as E}
 
   same : (f g : Polynomial c) → f.0 ≡ g.0 → f ≡ g
   same f g e = same_polynomial P F.ring f g e

@@ -12,7 +12,8 @@ abbrev pub product_of : {A : Type 0} → Ops A → List (List A) → List A
 product_of o [] = trim o (o.one ∷ [])
 product_of o (f ∷ fs) = poly_product o f (product_of o fs)
 
-pub record IsFactorization {A : Type 0} (c : Carrier A) (f : List A) (fs : List (List A)) : Type 0 where
+pub record IsFactorization {A : Type 0} (c : Carrier A) (f : List A) (fs : List (List A))
+    : Type 0 where
   pub monic : All (IsMonic c) fs
   pub irreducible : All (IsIrreducible c) fs
   pub product_is : product_of c.ops fs ≡ f

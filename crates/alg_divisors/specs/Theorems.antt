@@ -76,6 +76,7 @@ GcdIsUniqueOverFields T = IsSet T → (o : Ops T) (test : T → Bool) → IsFiel
 
 -- and two factorizations of a polynomial have the same factors, up to their order
 abbrev pub FactorizationIsUniqueOverFields : Type 0 → Type 0
-FactorizationIsUniqueOverFields T = IsSet T → (o : Ops T) (test : T → Bool) → IsField (tested o test)
+FactorizationIsUniqueOverFields T = IsSet T → (o : Ops T) (test : T → Bool)
+    → IsField (tested o test)
     → (f : List T) (fs gs : List (List T)) → IsFactorization (tested o test) f fs
     → IsFactorization (tested o test) f gs → IsPermutation fs gs

@@ -3,28 +3,30 @@
 use Rattle.std.proofs.Common.{ap₂, ◌∷◌, ◌≡◌, ◌≢◌, ◌⊎◌, ◌↔◌, pow-suc, ⊎_elim, inl, inr, ℕ, zero, suc, ◌^◌, ◌<◌, ◌≤◌, List, [], map, length, slice_index_or, All, AllPairs, Contains, refl, ap, sym, ◌∙◌, subst, arith}
 use Rattle.std.proofs.lemmas.List.{length-map, get_or-map}
 use Rattle.std.proofs.lemmas.List.Elements.{All-map, Contains-get_or}
-use Rattle.alg_divisors.proofs.LeastFactors.{contains_from_map}
-use Rattle.alg_rings.proofs.Powers
-use Rattle.alg_model.specs.Coefficients.{Ops, Carrier, times, power}
+use Rattle.alg_model.specs.Coefficients.{Carrier, times, power}
 use Rattle.alg_model.specs.Polynomials.{derivative, poly_product, poly_difference, poly_power}
 use Rattle.alg_model.specs.Factors.{IsPolynomial, IsMonic, Divides, IsGreatestCommonDivisor, IsProperFactor, IsIrreducible}
 use Rattle.alg_model.specs.Fields.{IsField}
+use Rattle.alg_model.specs.Coefficients.{IsPrime}
+use Rattle.alg_rings.proofs.Powers
 use Rattle.alg_rings.specs.Laws.{IsPropositional}
 use Rattle.alg_rings.proofs.Homomorphisms.{power-map}
 use Rattle.alg_rings.proofs.Trims
 use Rattle.alg_rings.proofs.Elements.{Element, element_ops, element_laws}
 use Rattle.alg_rings.proofs.Divisors.{Polynomial, polynomial_ops, same_polynomial, power_is}
-use Rattle.alg_divisors.specs.Factorization.{AreCoprime, product_of}
 use Rattle.alg_rings.proofs.Divisibility
+use Rattle.alg_rings.proofs.Modulo
+use Rattle.alg_rings.proofs.Modulo.{Same}
+use Rattle.alg_rings.proofs.Rings
+use Rattle.alg_divisors.proofs.LeastFactors.{contains_from_map}
+use Rattle.alg_divisors.specs.Factorization.{AreCoprime, product_of}
 use Rattle.alg_divisors.proofs.Euclidean
 use Rattle.alg_divisors.proofs.Gcd
 use Rattle.alg_divisors.proofs.Irreducible
 use Rattle.alg_divisors.proofs.Factorization
-use Rattle.alg_divisors.proofs.EuclideanPolynomials.{polynomials_euclidean}
+use Rattle.alg_divisors.proofs.EuclideanPolynomials.{over_field}
 use Rattle.alg_divisors.proofs.PolynomialFactors.{divides_to, divides_from, combination_to, combination_from, proper_to, irreducible_to, irreducible_from, gcd_to, gcd_unique, product_of-map}
 use Rattle.alg_fields.specs.Fixed.{IsFixed, less_constant, IsCertified}
-use Rattle.alg_rings.proofs.Modulo
-use Rattle.alg_rings.proofs.Modulo.{Same}
 use Rattle.alg_fields.proofs.Berlekamp
 use Rattle.alg_fields.proofs.Berlekamp.{Fixed, differences}
 use Rattle.alg_fields.proofs.Constants
@@ -34,17 +36,11 @@ use Rattle.alg_fields.proofs.Derivations
 use Rattle.alg_fields.proofs.Derivations.{derivative_of, product_rule}
 use Rattle.alg_fields.proofs.FermatProduct
 use Rattle.alg_fields.proofs.FiniteFields.{FieldOfSize}
-use Rattle.alg_model.specs.Coefficients.{IsPrime}
 use Rattle.alg_fields.proofs.Squares
 use Rattle.alg_fields.proofs.Gcds
-use Rattle.alg_rings.proofs.Rings
 
 module _ {A : Type 0} {c : Carrier A} (P : IsPropositional c) (F : IsField c) where
-  abbrev Q : Ops (Polynomial c)
-  Q = polynomial_ops P F.ring
-
-  abbrev E : Euclidean.EuclideanLaws (polynomial_ops P F.ring) (λ x. length x.0) (λ x. IsMonic c x.0)
-  E = polynomials_euclidean P F
+  open over_field P F use {ops as Q, laws as E}
 
   pub fixed_to : (q : ℕ) (f v : Polynomial c) → Fixed (polynomial_ops P F.ring) q f v → IsFixed c q f.0 v.0
   fixed_to q f v h =

@@ -2,34 +2,25 @@
 use Rattle.std.proofs.Common.{◌≡◌, ℕ, ◌<◌, List, map, length, replicate, All, ap, ap₂, sym, ◌∙◌, subst, arith}
 use Rattle.std.proofs.lemmas.List.{length-map, ext_get_or}
 use Rattle.std.proofs.lemmas.List.Elements.{All-replicate}
-use Rattle.alg_model.specs.Coefficients.{Ops, Carrier}
+use Rattle.alg_model.specs.Coefficients.{Carrier}
 use Rattle.alg_model.specs.Polynomials.{sum, product, trim, poly_sum, poly_product, poly_negative, leading}
 use Rattle.alg_model.specs.Factors.{IsMonic}
 use Rattle.alg_model.specs.Values.{padded, remainder}
 use Rattle.alg_model.specs.Fields.{IsRing}
-use Rattle.alg_rings.specs.Laws.{RingLaws, IsPropositional}
+use Rattle.alg_rings.specs.Laws.{IsPropositional}
 use Rattle.alg_rings.proofs.Trims
 use Rattle.alg_rings.proofs.PolynomialLaws
-use Rattle.alg_rings.proofs.Homomorphisms.{Homomorphism, sum-map, product-map, trim-map, negatives-map, poly_sum-map, poly_product-map, leading-map}
-use Rattle.alg_rings.proofs.Elements.{Element, underlying, element_ops, underlying_homomorphism, underlying_injective, on_valid, on_valid₂, underlying_valid, underlying_lists_injective, element_laws}
+use Rattle.alg_rings.proofs.Homomorphisms.{sum-map, product-map, trim-map, negatives-map, poly_sum-map, poly_product-map, leading-map}
+use Rattle.alg_rings.proofs.Elements.{Element, underlying, underlying_injective, on_valid, on_valid₂, underlying_valid, underlying_lists_injective, on_elements}
 use Rattle.alg_rings.proofs.CarrierPolynomials.{trim_polynomial}
-use Rattle.alg_rings.proofs.Divisors.{Polynomial, polynomial_ops, same_polynomial}
+use Rattle.alg_rings.proofs.Divisors.{Polynomial, same_polynomial, on_polynomials}
 use Rattle.alg_rings.proofs.Modulo.{Same}
 use Rattle.alg_fields.proofs.ListRemainders.{quotient_by, zeros_at, remainder_identity, trim_padded}
 use Rattle.alg_fields.proofs.ValueMaps.{remainder-map, quotient_by-map, padded-map, zeros-map}
 
 module _ {A : Type 0} {c : Carrier A} (P : IsPropositional c) (R : IsRing c) where
-  abbrev H : Homomorphism (element_ops R) c.ops (underlying c)
-  H = underlying_homomorphism R
-
-  abbrev E : Ops (Element c)
-  E = element_ops R
-
-  abbrev L : RingLaws (element_ops R)
-  L = element_laws P R
-
-  abbrev Q : Ops (Polynomial c)
-  Q = polynomial_ops P R
+  open on_elements P R use {ops as E, laws as L, value as H}
+  open on_polynomials P R use {ops as Q}
 
   abbrev pub class_of : (x : List A) → All c.Valid x → Polynomial c
   class_of x v = (trim c.ops x, trim_polynomial P R x v)

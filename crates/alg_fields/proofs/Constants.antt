@@ -1,23 +1,20 @@
 -- Constants among the polynomials over a carrier.
 use Rattle.std.proofs.Common.{◌≡◌, ◌≤◌, ◌==◌, Bool, true, false, cond, List, [], ◌∷◌, length, All, refl, ◌∙◌, arith}
 use Rattle.std.proofs.lemmas.List.Elements.{All-nil, All-cons, All-head}
-use Rattle.alg_model.specs.Coefficients.{Ops, Carrier}
+use Rattle.alg_model.specs.Coefficients.{Carrier}
 use Rattle.alg_model.specs.Factors.{IsPolynomial}
 use Rattle.alg_model.specs.Fields.{IsRing}
 use Rattle.alg_rings.specs.Laws.{IsPropositional}
 use Rattle.alg_rings.proofs.Trims
 use Rattle.alg_rings.proofs.Homomorphisms.{Homomorphism}
-use Rattle.alg_rings.proofs.Elements.{Element, element_ops, underlying_injective}
-use Rattle.alg_rings.proofs.Divisors.{Polynomial, polynomial_ops, same_polynomial}
+use Rattle.alg_rings.proofs.Elements.{Element, element_ops, underlying_injective, on_elements}
+use Rattle.alg_rings.proofs.Divisors.{Polynomial, polynomial_ops, same_polynomial, on_polynomials}
 use Rattle.alg_fields.proofs.Classes
 use Rattle.alg_fields.proofs.Classes.{class_of}
 
 module _ {A : Type 0} {c : Carrier A} (P : IsPropositional c) (R : IsRing c) where
-  abbrev E : Ops (Element c)
-  E = element_ops R
-
-  abbrev Q : Ops (Polynomial c)
-  Q = polynomial_ops P R
+  open on_elements P R use {ops as E}
+  open on_polynomials P R use {ops as Q}
 
   pub alone : (a : Element c) → All c.Valid (a.0 ∷ [])
   alone a = All-cons c.Valid a.0 [] a.1 (All-nil c.Valid)

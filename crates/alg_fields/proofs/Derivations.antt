@@ -1,14 +1,16 @@
 -- The derivative on the polynomials over a carrier, and powers p in characteristic p: what has derivative zero is a power p,
 -- where each element has a root p.
 use Rattle.std.proofs.Common.{◌≡◌, ℕ, ◌<◌, List, [], ◌∷◌, map, refl, ap, ap₂, sym, ◌∙◌, arith}
-use Rattle.alg_model.specs.Coefficients.{Ops, Carrier, times, power}
+use Rattle.alg_model.specs.Coefficients.{Carrier, times, power}
 use Rattle.alg_model.specs.Polynomials.{poly_sum, poly_product, derivative, evaluate}
 use Rattle.alg_model.specs.Fields.{IsRing}
-use Rattle.alg_rings.specs.Laws.{RingLaws, IsPropositional}
-use Rattle.alg_rings.proofs.Homomorphisms.{Homomorphism, poly_sum-map, poly_product-map, derivative-map}
-use Rattle.alg_rings.proofs.Elements.{Element, underlying, element_ops, underlying_homomorphism, on_valid₂, element_laws, elements, elements_are}
+use Rattle.alg_model.specs.Coefficients.{IsPrime}
+use Rattle.alg_rings.specs.Laws.{IsPropositional}
+use Rattle.alg_rings.proofs.Homomorphisms.{poly_sum-map, poly_product-map, derivative-map}
+use Rattle.alg_rings.proofs.Elements.{Element, underlying, element_ops, on_valid₂, elements, elements_are, on_elements}
 use Rattle.alg_rings.proofs.CarrierPolynomials.{derivative_polynomial}
-use Rattle.alg_rings.proofs.Divisors.{Polynomial, polynomial_ops, polynomial_laws, same_polynomial}
+use Rattle.alg_rings.proofs.Divisors.{Polynomial, polynomial_ops, polynomial_laws, same_polynomial, on_polynomials}
+use Rattle.alg_rings.proofs.Trims
 use Rattle.alg_fields.proofs.Derivatives
 use Rattle.alg_fields.proofs.Derivatives.{raw_derivative}
 use Rattle.alg_fields.proofs.Squares
@@ -17,23 +19,12 @@ use Rattle.alg_fields.proofs.PowerRoots
 use Rattle.alg_fields.proofs.PowerRoots.{every}
 use Rattle.alg_fields.proofs.Generator.{generator, polynomial_is_value}
 use Rattle.alg_fields.proofs.Frobenius
-use Rattle.alg_model.specs.Coefficients.{IsPrime}
 use Rattle.alg_fields.proofs.Derivatives.{raw_derivative}
 use Rattle.alg_fields.proofs.Constants.{constant, constant_homomorphism}
-use Rattle.alg_rings.proofs.Trims
 
 module _ {A : Type 0} {c : Carrier A} (P : IsPropositional c) (R : IsRing c) where
-  abbrev E : Ops (Element c)
-  E = element_ops R
-
-  abbrev L : RingLaws (element_ops R)
-  L = element_laws P R
-
-  abbrev Q : Ops (Polynomial c)
-  Q = polynomial_ops P R
-
-  abbrev H : Homomorphism (element_ops R) c.ops (underlying c)
-  H = underlying_homomorphism R
+  open on_elements P R use {ops as E, laws as L, value as H}
+  open on_polynomials P R use {ops as Q}
 
   abbrev pub derivative_of : Polynomial c → Polynomial c
   derivative_of f = (derivative c.ops f.0, derivative_polynomial P R f.0 f.1)

@@ -6,9 +6,9 @@ use Rattle.alg_model.specs.Fields.{IsRing}
 use Rattle.alg_rings.specs.Laws.{RingLaws, IsPropositional}
 use Rattle.alg_rings.proofs.Lists
 use Rattle.alg_rings.proofs.Trims
-use Rattle.alg_rings.proofs.Homomorphisms.{Homomorphism, trim-map, poly_sum-map, poly_product-map}
-use Rattle.alg_rings.proofs.Elements.{Element, underlying, element_ops, underlying_homomorphism, element_laws, underlying_valid, elements, elements_are}
-use Rattle.alg_rings.proofs.Divisors.{Polynomial, polynomial_ops, same_polynomial}
+use Rattle.alg_rings.proofs.Homomorphisms.{trim-map, poly_sum-map, poly_product-map}
+use Rattle.alg_rings.proofs.Elements.{Element, underlying, underlying_valid, elements, elements_are, on_elements}
+use Rattle.alg_rings.proofs.Divisors.{Polynomial, same_polynomial, on_polynomials}
 use Rattle.alg_fields.proofs.Classes.{class_of}
 use Rattle.alg_fields.proofs.Constants.{constant}
 
@@ -30,17 +30,8 @@ module _ {A : Type 0} {o : Ops A} (R : RingLaws o) where
       ∙ ap (trim o) (Lists.sum_cons_shift R a [] f))
 
 module _ {A : Type 0} {c : Carrier A} (P : IsPropositional c) (R : IsRing c) where
-  abbrev E : Ops (Element c)
-  E = element_ops R
-
-  abbrev L : RingLaws (element_ops R)
-  L = element_laws P R
-
-  abbrev Q : Ops (Polynomial c)
-  Q = polynomial_ops P R
-
-  abbrev H : Homomorphism (element_ops R) c.ops (underlying c)
-  H = underlying_homomorphism R
+  open on_elements P R use {ops as E, laws as L, value as H}
+  open on_polynomials P R use {ops as Q}
 
   -- the polynomial of a list of elements
   abbrev polynomial_from : List (Element c) → Polynomial c

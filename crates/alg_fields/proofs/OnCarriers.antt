@@ -1,31 +1,24 @@
 -- From the theory to carriers: powers p, roots and derivatives on valid elements and lists.
 use Rattle.std.proofs.Common.{◌%◌, ◌≡◌, ◌≢◌, ◌↔◌, ℕ, ◌<◌, List, [], map, length, slice_index_or, All, AllPairs, ap, ap₂, sym, ◌∙◌, arith}
 use Rattle.std.proofs.lemmas.List.{length-map, get_or-map}
-use Rattle.alg_model.specs.Coefficients.{Ops, Carrier, times, power}
+use Rattle.alg_model.specs.Coefficients.{Carrier, times, power}
 use Rattle.alg_model.specs.Polynomials.{trim, poly_product, evaluate, derivative}
 use Rattle.alg_model.specs.Factors.{IsPolynomial, Divides}
 use Rattle.alg_model.specs.Fields.{IsRing, IsField}
-use Rattle.alg_rings.specs.Laws.{RingLaws, IsPropositional}
+use Rattle.alg_model.specs.Coefficients.{IsPrime}
+use Rattle.alg_rings.specs.Laws.{IsPropositional}
 use Rattle.alg_rings.proofs.Trims
 use Rattle.alg_rings.proofs.Division.{zero_from_product}
-use Rattle.alg_rings.proofs.Homomorphisms.{Homomorphism, times-map, power-map, evaluate-map, trim-map, derivative-map, place-map, poly_product-map}
-use Rattle.alg_rings.proofs.Elements.{Element, underlying, element_ops, underlying_homomorphism, underlying_injective, underlying_lists_injective, underlying_valid, on_valid, on_valid₂, element_laws, element_field}
+use Rattle.alg_rings.proofs.Homomorphisms.{times-map, power-map, evaluate-map, trim-map, derivative-map, place-map, poly_product-map}
+use Rattle.alg_rings.proofs.Elements.{Element, underlying, element_ops, underlying_injective, underlying_lists_injective, underlying_valid, on_valid, on_valid₂, element_laws, element_field, on_elements}
 use Rattle.alg_rings.proofs.CarrierPolynomials.{trimmed_elements}
 use Rattle.alg_rings.proofs.Powers
 use Rattle.alg_fields.proofs.Frobenius
-use Rattle.alg_model.specs.Coefficients.{IsPrime}
 use Rattle.alg_fields.proofs.Roots
 use Rattle.alg_fields.proofs.Roots.{linear, quotient_at}
 
 module _ {A : Type 0} {c : Carrier A} (P : IsPropositional c) (R : IsRing c) where
-  abbrev H : Homomorphism (element_ops R) c.ops (underlying c)
-  H = underlying_homomorphism R
-
-  abbrev E : Ops (Element c)
-  E = element_ops R
-
-  abbrev L : RingLaws (element_ops R)
-  L = element_laws P R
+  open on_elements P R use {ops as E, laws as L, value as H}
 
   pub characteristic_of_elements : (p : ℕ) → times c.ops p c.ops.one ≡ c.ops.zero → times (element_ops R) p (element_ops R).one ≡ (element_ops R).zero
   characteristic_of_elements p e = underlying_injective P (times E p E.one) E.zero (times-map H p E.one ∙ e)
@@ -98,11 +91,7 @@ module _ {A : Type 0} {c : Carrier A} (P : IsPropositional c) (R : IsRing c) whe
       at G t = (to G t, from G t)
 
 module _ {A : Type 0} {c : Carrier A} (P : IsPropositional c) (F : IsField c) where
-  abbrev K : Homomorphism (element_ops F.ring) c.ops (underlying c)
-  K = underlying_homomorphism F.ring
-
-  abbrev M : Ops (Element c)
-  M = element_ops F.ring
+  open on_elements P F.ring use {ops as M, value as K}
 
   -- **a polynomial has fewer distinct roots than coefficients**
   pub root_bound : (f roots : List A) → IsPolynomial c f → f ≢ [] → All c.Valid roots → AllPairs (λ a b. a ≢ b) roots

@@ -1,7 +1,7 @@
 -- Taking remainders modulo a monic f over a field: it is division by f, keeps sums, products and powers, and two polynomials
 -- have one remainder exactly if f divides their difference.
 use Rattle.std.proofs.Common.{◌≡◌, ◌↔◌, ℕ, zero, suc, ◌<◌, List, [], ◌∷◌, length, replicate, All, ap, sym, subst, ◌∙◌, arith}
-use Rattle.alg_model.specs.Coefficients.{Ops, Carrier, power}
+use Rattle.alg_model.specs.Coefficients.{Carrier, power}
 use Rattle.alg_model.specs.Polynomials.{sum, product, trim, poly_sum, poly_product, poly_difference, poly_power}
 use Rattle.alg_model.specs.Factors.{IsMonic, IsDivision, Divides}
 use Rattle.alg_model.specs.Values.{degree, remainder, value_ops, values}
@@ -11,22 +11,17 @@ use Rattle.alg_rings.proofs.Trims
 use Rattle.alg_rings.proofs.Validity.{product_valid}
 use Rattle.alg_rings.proofs.CarrierPolynomials.{poly_power_polynomial}
 use Rattle.alg_rings.proofs.Divisors.{Polynomial, polynomial_ops, same_polynomial}
-use Rattle.alg_divisors.proofs.Euclidean
-use Rattle.alg_divisors.proofs.EuclideanPolynomials.{polynomials_euclidean}
-use Rattle.alg_divisors.proofs.PolynomialFactors.{divides_to, divides_from}
 use Rattle.alg_rings.proofs.Modulo
 use Rattle.alg_rings.proofs.Modulo.{Same}
+use Rattle.alg_divisors.proofs.EuclideanPolynomials.{over_field}
+use Rattle.alg_divisors.proofs.PolynomialFactors.{divides_to, divides_from}
 use Rattle.alg_fields.proofs.Quotients.{IsQuotient}
 use Rattle.alg_fields.proofs.ListRemainders.{length_remainder}
 use Rattle.alg_fields.proofs.Classes
 use Rattle.alg_fields.proofs.ValueFields.{polynomial_of, values_quotient}
 
 module _ {A : Type 0} {c : Carrier A} (P : IsPropositional c) (F : IsField c) (f : Polynomial c) (not_constant : 1 < length f.0) (monic : IsMonic c f.0) where
-  abbrev Q : Ops (Polynomial c)
-  Q = polynomial_ops P F.ring
-
-  abbrev E : Euclidean.EuclideanLaws (polynomial_ops P F.ring) (λ x. length x.0) (λ x. IsMonic c x.0)
-  E = polynomials_euclidean P F
+  open over_field P F use {ops as Q, laws as E}
 
   abbrev V : IsQuotient (values c f.0) (polynomial_ops P F.ring) f (polynomial_of P F f not_constant monic)
   V = values_quotient P F f not_constant monic

@@ -12,10 +12,9 @@ use Rattle.alg_rings.specs.Laws.{IsPropositional}
 use Rattle.alg_rings.proofs.Homomorphisms.{Homomorphism}
 use Rattle.alg_rings.proofs.Elements.{Element, element_ops, underlying_injective}
 use Rattle.alg_rings.proofs.Divisors.{Polynomial, polynomial_ops}
-use Rattle.alg_divisors.proofs.Euclidean
-use Rattle.alg_divisors.proofs.EuclideanPolynomials.{polynomials_euclidean}
 use Rattle.alg_rings.proofs.Modulo
 use Rattle.alg_rings.proofs.Modulo.{Same}
+use Rattle.alg_divisors.proofs.EuclideanPolynomials.{over_field}
 use Rattle.alg_fields.proofs.Quotients.{IsQuotient}
 use Rattle.alg_fields.proofs.Classes
 use Rattle.alg_fields.proofs.Constants.{constant, alone, constant_homomorphism}
@@ -27,11 +26,7 @@ zeros_pass test z e zero = refl
 zeros_pass test z e (suc n) = ap₂ ◌&&◌ e (zeros_pass test z e n)
 
 module _ {A : Type 0} {c : Carrier A} (P : IsPropositional c) (F : IsField c) (f : Polynomial c) (not_constant : 1 < length f.0) (monic : IsMonic c f.0) where
-  abbrev Q : Ops (Polynomial c)
-  Q = polynomial_ops P F.ring
-
-  abbrev E : Euclidean.EuclideanLaws (polynomial_ops P F.ring) (λ x. length x.0) (λ x. IsMonic c x.0)
-  E = polynomials_euclidean P F
+  open over_field P F use {ops as Q, laws as E}
 
   abbrev V : IsQuotient (values c f.0) (polynomial_ops P F.ring) f (polynomial_of P F f not_constant monic)
   V = values_quotient P F f not_constant monic
@@ -42,13 +37,14 @@ module _ {A : Type 0} {c : Carrier A} (P : IsPropositional c) (F : IsField c) (f
   abbrev list_of : Element c → List A
   list_of a = padded c.ops (degree f.0) (a.0 ∷ [])
 
-  constant_valid : (a : Element c) → (values c f.0).Valid (padded c.ops (degree f.0) (a.0 ∷ []))
+  -- an element of c, with zeros after it, is a value
+  pub constant_valid : (a : Element c) → (values c f.0).Valid (padded c.ops (degree f.0) (a.0 ∷ []))
   constant_valid a = (
     All-append c.Valid (a.0 ∷ []) (replicate (degree f.0 - 1) c.ops.zero) (alone P F.ring a) (All-replicate c.Valid (degree f.0 - 1) c.ops.zero F.ring.zero_valid),
     omega (arith, length-replicate (degree f.0 - 1) c.ops.zero),
   )
 
-  pub constant_value : Element c → Element (values c f.0)
+  abbrev pub constant_value : Element c → Element (values c f.0)
   constant_value a = (padded c.ops (degree f.0) (a.0 ∷ []), constant_valid a)
 
   same_constant : (a : Element c) → Same Q f (polynomial_of P F f not_constant monic (padded c.ops (degree f.0) (a.0 ∷ [])) (constant_valid a)) (constant P F.ring a)
@@ -65,8 +61,8 @@ module _ {A : Type 0} {c : Carrier A} (P : IsPropositional c) (F : IsField c) (f
   back : {a : Polynomial c} {b d : Polynomial c} → Same Q f d b → a ≡ b → Same Q f a d
   back s e = Modulo.same_trans E.ring (Modulo.same_from_equal E.ring e) (Modulo.same_back E.ring s)
 
+  -- **constants keep the operations**
   pub constant_value_homomorphism : Homomorphism (element_ops F.ring) (element_ops (values_ring P F f not_constant monic)) constant_value
-  unfolding constant_value
   constant_value_homomorphism = record {
     zero = same_value _ _ (equal (c.ops.zero, F.ring.zero_valid) (replicate (degree f.0) c.ops.zero) V.zero_valid
         (back (V.zero V.zero_valid) (constant_homomorphism P F.ring).zero));

@@ -7,7 +7,7 @@ use Rattle.std.proofs.lemmas.List.Elements.{All-nil, All-cons, All-append, All-r
 use Rattle.std.specs.List.{list_all}
 use native.Mathlib.Nat.{ℕ_set}
 use mathlib.Core.List.{is_set}
-use Rattle.alg_model.specs.Coefficients.{Ops, Carrier}
+use Rattle.alg_model.specs.Coefficients.{Carrier}
 use Rattle.alg_model.specs.Polynomials.{product, trim}
 use Rattle.alg_model.specs.Factors.{IsMonic, IsIrreducible}
 use Rattle.alg_model.specs.Values.{degree, remainder, values}
@@ -17,13 +17,13 @@ use Rattle.alg_rings.proofs.Rings
 use Rattle.alg_rings.proofs.Lists
 use Rattle.alg_rings.proofs.Trims
 use Rattle.alg_rings.proofs.Validity.{sum_valid, product_valid, negatives_valid}
-use Rattle.alg_rings.proofs.Divisors.{Polynomial, polynomial_ops, same_polynomial}
-use Rattle.alg_divisors.proofs.Euclidean
-use Rattle.alg_divisors.proofs.Irreducible
-use Rattle.alg_divisors.proofs.EuclideanPolynomials.{polynomials_euclidean}
-use Rattle.alg_divisors.proofs.PolynomialFactors.{irreducible_from}
+use Rattle.alg_rings.proofs.Divisors.{Polynomial, same_polynomial}
 use Rattle.alg_rings.proofs.Modulo
 use Rattle.alg_rings.proofs.Modulo.{Same}
+use Rattle.alg_divisors.proofs.Euclidean
+use Rattle.alg_divisors.proofs.Irreducible
+use Rattle.alg_divisors.proofs.EuclideanPolynomials.{over_field}
+use Rattle.alg_divisors.proofs.PolynomialFactors.{irreducible_from}
 use Rattle.alg_fields.proofs.ListRemainders.{length_remainder}
 use Rattle.alg_fields.proofs.Classes
 use Rattle.alg_fields.proofs.Classes.{class_of}
@@ -49,11 +49,7 @@ all_zero_iff {A} {c} R (suc n) (x ∷ xs) v e =
     (all_zero_iff R n xs (All-tail c.Valid x xs v) (omega arith))
 
 module _ {A : Type 0} {c : Carrier A} (P : IsPropositional c) (F : IsField c) (f : Polynomial c) (not_constant : 1 < length f.0) (monic : IsMonic c f.0) where
-  abbrev Q : Ops (Polynomial c)
-  Q = polynomial_ops P F.ring
-
-  abbrev E : Euclidean.EuclideanLaws (polynomial_ops P F.ring) (λ x. length x.0) (λ x. IsMonic c x.0)
-  E = polynomials_euclidean P F
+  open over_field P F use {ops as Q, laws as E}
 
   -- the polynomial that a value stands for
   abbrev pub polynomial_of : (x : List A) → (values c f.0).Valid x → Polynomial c

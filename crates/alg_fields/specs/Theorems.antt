@@ -36,7 +36,8 @@ FrobeniusKeepsSums =
     (p : ℕ) → IsPrime p → (f : List ℕ) → IsPolynomial (residues p) f → IsMonic (residues p) f
     → 1 < length f → (a b : List ℕ) → (values (residues p) f).Valid a
     → (values (residues p) f).Valid b
-    → power (value_ops (mod_ops p) f) (sum (mod_ops p) a b) p ≡ sum (mod_ops p) (power (value_ops (mod_ops p) f) a p) (power (value_ops (mod_ops p) f) b p)
+    → power (value_ops (mod_ops p) f) (sum (mod_ops p) a b) p
+    ≡ sum (mod_ops p) (power (value_ops (mod_ops p) f) a p) (power (value_ops (mod_ops p) f) b p)
 
 -- (a * b)^p = a^p * b^p
 abbrev pub FrobeniusKeepsProducts : Type 0
@@ -44,7 +45,9 @@ FrobeniusKeepsProducts =
     (p : ℕ) → IsPrime p → (f : List ℕ) → IsPolynomial (residues p) f → IsMonic (residues p) f
     → 1 < length f → (a b : List ℕ) → (values (residues p) f).Valid a
     → (values (residues p) f).Valid b
-    → power (value_ops (mod_ops p) f) ((value_ops (mod_ops p) f).mul a b) p ≡ (value_ops (mod_ops p) f).mul (power (value_ops (mod_ops p) f) a p) (power (value_ops (mod_ops p) f) b p)
+    → power (value_ops (mod_ops p) f) ((value_ops (mod_ops p) f).mul a b) p
+    ≡ (value_ops (mod_ops p) f).mul (power (value_ops (mod_ops p) f) a p)
+    (power (value_ops (mod_ops p) f) b p)
 
 -- a residue is its own power p
 abbrev pub ResiduesAreFixed : Type 0
@@ -82,7 +85,8 @@ abbrev pub RemainderKeepsPowers : Type 0
 RemainderKeepsPowers =
     (p : ℕ) → IsPrime p → (f g : List ℕ) → IsPolynomial (residues p) f → IsMonic (residues p) f
     → 1 < length f → IsPolynomial (residues p) g → (n : ℕ)
-    → remainder (mod_ops p) f (poly_power (mod_ops p) g n) ≡ power (value_ops (mod_ops p) f) (remainder (mod_ops p) f g) n
+    → remainder (mod_ops p) f (poly_power (mod_ops p) g n)
+    ≡ power (value_ops (mod_ops p) f) (remainder (mod_ops p) f g) n
 
 -- the derivative is zero exactly if only powers of x^p occur
 abbrev pub DerivativeZeroByPlaces : Type 0
@@ -134,7 +138,8 @@ IrreducibleIsCertified =
     (p : ℕ) → IsPrime p → (f : List ℕ) → IsIrreducible (residues p) f
     → IsCertified (residues p) p f
 
--- the product of two values is the remainder of their product as polynomials, also where they end in zeros
+-- the product of two values is the remainder of their product as polynomials, also where they end
+-- in zeros
 abbrev pub ProductIsRemainder : Type 0
 ProductIsRemainder =
     (p : ℕ) → IsPrime p → (f a b : List ℕ) → IsPolynomial (residues p) f → IsMonic (residues p) f
@@ -142,7 +147,8 @@ ProductIsRemainder =
     → (q : List ℕ) × IsDivision (residues p) (poly_product (mod_ops p) a b) f q
     (trim (mod_ops p) ((value_ops (mod_ops p) f).mul a b))
 
--- over each field whose elements a test tells, the values modulo a monic irreducible polynomial form a field
+-- over each field whose elements a test tells, the values modulo a monic irreducible polynomial
+-- form a field
 abbrev pub ValuesOverFieldsAreAField : Type 0 → Type 0
 ValuesOverFieldsAreAField T = IsSet T → (o : Ops T) (test : T → Bool) → IsField (tested o test)
     → (f : List T) → IsMonic (tested o test) f → IsIrreducible (tested o test) f
@@ -151,6 +157,7 @@ ValuesOverFieldsAreAField T = IsSet T → (o : Ops T) (test : T → Bool) → Is
 -- and a polynomial that isn't zero has fewer distinct roots than coefficients
 abbrev pub RootsOverFieldsAreFew : Type 0 → Type 0
 RootsOverFieldsAreFew T = IsSet T → (o : Ops T) (test : T → Bool) → IsField (tested o test)
-    → (f roots : List T) → IsPolynomial (tested o test) f → f ≢ [] → All (λ a. IsTrue (test a)) roots
+    → (f roots : List T) → IsPolynomial (tested o test) f → f ≢ []
+    → All (λ a. IsTrue (test a)) roots
     → AllPairs (λ a b. a ≢ b) roots → All (λ a. evaluate o f a ≡ o.zero) roots
     → length roots < length f

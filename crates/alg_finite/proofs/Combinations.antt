@@ -15,6 +15,7 @@ use Rattle.alg_rings.proofs.Rings.{sorted, expanded}
 use Rattle.alg_rings.proofs.Elements.{Element, underlying}
 use Rattle.alg_rings.proofs.Homomorphisms.{Homomorphism}
 use Rattle.alg_rings.proofs.Divisors.{Polynomial}
+use Rattle.alg_fields.proofs.ValueConstants.{constant_value}
 use Rattle.alg_finite.proofs.Values
 
 -- h x_0 * c_0 + h x_1 * c_1 + ..
@@ -87,7 +88,7 @@ module _ {A : Type 0} {c : Carrier A} (P : IsPropositional c) (F : IsField c) (f
     (not_constant : 1 < length f.0) (monic : IsMonic c f.0) where
   -- **as lists it is the combination of columns**
   pub combine_value : (cs : List (Element (values c f.0))) (xs : List (Element c))
-      → (combine (Values.constant_element P F f not_constant monic)
+      → (combine (constant_value P F f not_constant monic)
       (Values.value_element_ops P F f not_constant monic) cs xs).0
       ≡ combination c.ops (degree f.0) (map (underlying (values c f.0)) cs) (map (underlying c) xs)
   combine_value [] xs = refl

@@ -1,8 +1,9 @@
--- Finite types by the numbers of their members, and decisions over finitely many numbers.
+-- Finite types by the numbers of their members.
 --     Enumeration A n     A has n members, with the numbers below n
 --     Repeats f n         f takes one value at two numbers below n
-use Rattle.std.proofs.Common.{◌≡◌, ◌≢◌, ◌⊎◌, ⊎_elim, inl, inr, ℕ, zero, suc, ◌+◌, ◌*◌, ◌/◌, ◌%◌, ◌^◌, ◌<◌, ◌≤◌, List, [], ◌∷◌, length, refl, ap, ap₂, sym, ◌∙◌, subst, arith, pow-suc, mod-lt, eq-or-lt_of_le}
+use Rattle.std.proofs.Common.{◌≡◌, ◌≢◌, ◌⊎◌, ⊎_elim, inl, inr, ℕ, zero, suc, ◌+◌, ◌*◌, ◌/◌, ◌%◌, ◌^◌, ◌<◌, ◌≤◌, List, [], ◌∷◌, length, refl, ap, ap₂, sym, ◌∙◌, arith, pow-suc, mod-lt, eq-or-lt_of_le}
 use Rattle.std.proofs.Math.Nat.{pow-zero, mul_comm, add-mul-mod_self_left, add-mul-div_left, mul-le-mul_left, mod-add-div, div-lt_iff_lt-mul, mod-eq_of_lt, div-eq_of_lt}
+use Rattle.alg_rings.proofs.Decisions.{Least, search_below}
 
 pub record Enumeration (A : Type 0) (n : ℕ) : Type 0 where
   pub at : ℕ → A
@@ -27,19 +28,6 @@ pub members_distinct : {A : Type 0} {n : ℕ} (M : Enumeration A n) → Distinct
 members_distinct M i j l h e =
     let s : i ≡ j = sym (M.index_at i (omega arith)) ∙ ap M.index e ∙ M.index_at j h in omega arith
 
--- a P below n, the first of them, or none
-pub first_below : (P : ℕ → Type 0) → ((i : ℕ) → P i ⊎ (P i → ⊥)) → (n : ℕ)
-    → ((i : ℕ) × (i < n) × P i × ((j : ℕ) → j < i → P j → ⊥)) ⊎ ((i : ℕ) → i < n → P i → ⊥)
-first_below P decide zero = inr (λ i l h. omega arith)
-first_below P decide (suc n) = ⊎_elim
-    (λ f. inl (f.0, omega (arith, f.1), f.2, f.3))
-    (λ none. ⊎_elim
-    (λ h. inl (n, omega arith, h, λ j l k. none j l k))
-    (λ h. inr (λ i l k. ⊎_elim (λ e. h (subst P e k)) (λ m. none i m k)
-    (eq-or-lt_of_le (let m : i ≤ n = omega arith in m))))
-    (decide n))
-    (first_below P decide n)
-
 -- f is distinct below n, or repeats itself
 pub repeats_or_distinct : {A : Type 0} → ((x y : A) → (x ≡ y) ⊎ (x ≢ y)) → (f : ℕ → A) (n : ℕ)
     → Repeats f n ⊎ Distinct f n
@@ -53,11 +41,17 @@ repeats_or_distinct decide f (suc n) = ⊎_elim
       same = r.same;
     }))
     (λ d. ⊎_elim
-    (λ g. inl (record { first = g.0; second = n; rising = g.1; within = omega arith; same = g.2 }))
+    (λ (g : Least (λ i. f i ≡ f n) n). inl (record {
+      first = g.number;
+      second = n;
+      rising = g.below;
+      within = omega arith;
+      same = g.holds;
+    }))
     (λ none. inr (λ i j l h e. ⊎_elim
     (λ s. none i (omega arith) (e ∙ ap f s))
     (λ m. d i j l m e) (eq-or-lt_of_le (let m : j ≤ n = omega arith in m))))
-    (first_below (λ i. f i ≡ f n) (λ i. decide (f i) (f n)) n))
+    (search_below (λ i. f i ≡ f n) n (λ i l. decide (f i) (f n))))
     (repeats_or_distinct decide f n)
 
 -- ---- lists of d members, by the digits of a number in base q

@@ -9,9 +9,9 @@ use Rattle.alg_model.specs.Polynomials.{evaluate, leading, poly_sum, poly_produc
 use Rattle.alg_model.specs.Fields.{IsRing}
 use Rattle.alg_rings.specs.Laws.{RingLaws, IsPropositional}
 use Rattle.alg_rings.proofs.Trims
-use Rattle.alg_rings.proofs.Elements.{Element, underlying, element_ops, element_laws, underlying_lists_injective, elements, elements_are, underlying_valid, underlying_homomorphism}
+use Rattle.alg_rings.proofs.Elements.{Element, underlying, element_ops, element_laws, underlying_lists_injective, elements, elements_are, underlying_valid, on_elements}
 use Rattle.alg_rings.proofs.Homomorphisms.{Homomorphism, trim-map, poly_sum-map, poly_product-map, leading-map}
-use Rattle.alg_rings.proofs.Divisors.{Polynomial, polynomial_ops}
+use Rattle.alg_rings.proofs.Divisors.{Polynomial, on_polynomials}
 use Rattle.alg_rings.proofs.Evaluation
 
 -- the coefficients with their validity
@@ -24,14 +24,8 @@ abbrev pub evaluate_by : {X A : Type 0} (c : Carrier X) (h : Element c → A) (o
 evaluate_by c h o f a = evaluate o (map h (coefficients c f)) a
 
 module _ {X : Type 0} {c : Carrier X} (P : IsPropositional c) (R : IsRing c) where
-  abbrev E : Ops (Element c)
-  E = element_ops R
-
-  abbrev Q : Ops (Polynomial c)
-  Q = polynomial_ops P R
-
-  abbrev V : Homomorphism (element_ops R) c.ops (underlying c)
-  V = underlying_homomorphism R
+  open on_elements P R use {ops as E, value as V}
+  open on_polynomials P R use {ops as Q}
 
   -- as many as the polynomial has
   pub length_coefficients : (f : Polynomial c) → length (coefficients c f) ≡ length f.0

@@ -6,9 +6,11 @@ use Rattle.alg_model.specs.Coefficients.{Ops, power}
 use Rattle.alg_model.specs.Polynomials.{evaluate}
 use Rattle.alg_rings.specs.Laws.{FieldLaws}
 use Rattle.alg_rings.proofs.Homomorphisms.{Homomorphism, power-map, evaluate-map}
+use Rattle.alg_rings.proofs.Decisions.{Least, search_below}
+use Rattle.alg_rings.proofs.Rings.{equal_or_not}
 use Rattle.alg_fields.proofs.FermatProduct.{fixing, length_fixing, leading_fixing, value_of_fixing}
-use Rattle.alg_finite.proofs.Enumerations.{Distinct, first_below, members_distinct}
-use Rattle.alg_finite.proofs.FieldMaps.{equal_or_not, injective}
+use Rattle.alg_finite.proofs.Enumerations.{Distinct, members_distinct}
+use Rattle.alg_finite.proofs.FieldMaps.{injective}
 use Rattle.alg_finite.proofs.FiniteField.{FiniteField, frobenius, frobenius_none, frobenius_last, root_bound_at}
 
 -- a number less than q and its members, with one more in front
@@ -49,14 +51,14 @@ module _ {A B : Type 0} {k : Ops B} {o : Ops A} {h : B → A} (H : Homomorphism 
   pub fixed_is_image : 1 < p ^ m → (a : A) → power o a (p ^ m) ≡ a → (b : B) × (h b ≡ a)
   unfolding in_front
   fixed_is_image l a e = ⊎_elim
-      (λ i. (K.members.at i.0, i.2))
+      (λ (i : Least (λ i. h (K.members.at i) ≡ a) (p ^ m)). (K.members.at i.number, i.holds))
       (λ none. absurd (omega (
         arith,
         fixed_few F (p ^ m) l (in_front a images) (suc (p ^ m))
             (distinct_in_front a images (p ^ m) distinct none) fixed,
       )))
-      (first_below (λ i. h (K.members.at i) ≡ a) (λ i. equal_or_not F.ring (h (K.members.at i)) a)
-      (p ^ m))
+      (search_below (λ i. h (K.members.at i) ≡ a) (p ^ m)
+      (λ i r. equal_or_not F.ring (h (K.members.at i)) a))
     where
       distinct : Distinct images (p ^ m)
       distinct i j r w s = members_distinct K.members i j r w

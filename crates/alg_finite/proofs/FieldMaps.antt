@@ -1,16 +1,9 @@
 -- Maps between fields that keep one, sums and products keep every operation, and are injective.
-use Rattle.std.proofs.Common.{◌≡◌, ◌≢◌, ◌⊎◌, ⊎_elim, inl, inr, ap, ap₂, sym, ◌∙◌}
+use Rattle.std.proofs.Common.{◌≡◌, ◌≢◌, ⊎_elim, ap, ap₂, sym, ◌∙◌}
 use Rattle.alg_model.specs.Coefficients.{Ops}
 use Rattle.alg_rings.specs.Laws.{RingLaws, FieldLaws}
 use Rattle.alg_rings.proofs.Rings
 use Rattle.alg_rings.proofs.Homomorphisms.{Homomorphism}
-
--- two elements of a ring are equal or not
-pub equal_or_not : {A : Type 0} {o : Ops A} → RingLaws o → (x y : A) → (x ≡ y) ⊎ (x ≢ y)
-equal_or_not {A} {o} R x y = ⊎_elim
-    (λ e. inl (Rings.same_from_difference R x y e))
-    (λ n. inr (λ e. n (ap (λ t. o.add t (o.neg y)) e ∙ R.add_neg y)))
-    (Rings.zero_or_not o R.zero_test (o.add x (o.neg y)))
 
 module _ {A B : Type 0} {o : Ops A} {o' : Ops B} {h : A → B} where
   -- a map that keeps the operations of rings and tells zero is injective

@@ -17,11 +17,12 @@ use Rattle.alg_rings.proofs.Elements.{Element, underlying, element_ops, element_
 use Rattle.alg_rings.proofs.Homomorphisms.{Homomorphism, leading-map}
 use Rattle.alg_rings.proofs.ResidueFields.{prime_residues_field, residues_propositional}
 use Rattle.alg_rings.proofs.Divisors.{Polynomial}
+use Rattle.alg_rings.proofs.Rings.{equal_or_not}
 use Rattle.alg_fields.proofs.OverResidues.{first_power}
 use Rattle.alg_fields.proofs.FiniteFields.{FieldOfSize, residues_characteristic, fermat}
 use Rattle.alg_fields.proofs.PowerRoots.{image_characteristic}
+use Rattle.alg_fields.proofs.ValueConstants.{constant_value, constant_value_homomorphism}
 use Rattle.alg_finite.proofs.Enumerations.{Enumeration, Repeats, digits, number, length_digits, number_below, digits_number, number_digits, repeats_or_distinct, members_distinct}
-use Rattle.alg_finite.proofs.FieldMaps.{equal_or_not}
 use Rattle.alg_finite.proofs.FiniteField.{FiniteField, frobenius, frobenius_add, frobenius_of_power, frobenius_homomorphism, frobenius_cancel, root_bound_at, pow_mul, pow_one, pow_strict, pow_positive, above_one}
 use Rattle.alg_finite.proofs.Extensions.{fixed_few, frobenius_of_value}
 use Rattle.alg_finite.proofs.Values
@@ -81,11 +82,11 @@ module _ {A : Type 0} {c : Carrier A} (P : IsPropositional c) (F : IsField c) {p
   L = Values.value_laws P F f not_constant monic irreducible
 
   abbrev h : Element c → Element (values c f.0)
-  h = Values.constant_element P F f not_constant monic
+  h = constant_value P F f not_constant monic
 
   abbrev H : Homomorphism (element_ops F.ring) (Values.value_element_ops P F f not_constant monic)
-      (Values.constant_element P F f not_constant monic)
-  H = Values.constant_element_homomorphism P F f not_constant monic irreducible
+      (constant_value P F f not_constant monic)
+  H = constant_value_homomorphism P F f not_constant monic
 
   abbrev x : Element (values c f.0)
   x = Values.generator_element P F f not_constant monic

@@ -8,36 +8,37 @@ use Rattle.std.proofs.lemmas.Bool.{cases_lt, cases_eq}
 use Rattle.std.proofs.lemmas.List.FromFn.{length-map-range_with_len, get_or-map-range_with_len}
 use Rattle.std.proofs.lemmas.List.Elements.{All-from_get_or}
 use Rattle.std.proofs.lemmas.Nat.Gcd.{le_of_dvd, dvd_of_mod-eq-zero}
-use Rattle.alg_rings.proofs.Divisibility
 use Rattle.alg_model.specs.Coefficients.{Ops, Carrier, times}
 use Rattle.alg_model.specs.Polynomials.{trim, derivative, poly_negative}
 use Rattle.alg_model.specs.Factors.{IsMonic, IsIrreducible, Divides}
 use Rattle.alg_model.specs.Values.{degree, values}
 use Rattle.alg_model.specs.Fields.{IsField}
+use Rattle.alg_rings.proofs.Divisibility
 use Rattle.alg_rings.specs.Laws.{RingLaws, FieldLaws, IsPropositional}
 use Rattle.alg_rings.proofs.Rings
 use Rattle.alg_rings.proofs.Rings.{sorted}
 use Rattle.alg_rings.proofs.Lists
 use Rattle.alg_rings.proofs.Trims
 use Rattle.alg_rings.proofs.Monomials.{monomial, monomial_at, monomial_elsewhere}
-use Rattle.alg_rings.proofs.Elements.{Element, underlying, element_ops, underlying_homomorphism}
+use Rattle.alg_rings.proofs.Elements.{Element, underlying, element_ops, underlying_homomorphism, on_elements}
 use Rattle.alg_rings.proofs.Homomorphisms.{derivative-map}
 use Rattle.alg_rings.proofs.Divisors.{Polynomial, polynomial_ops, same_polynomial}
+use Rattle.alg_rings.proofs.Powers
 use Rattle.alg_divisors.proofs.Euclidean
 use Rattle.alg_divisors.proofs.Euclidean.{EuclideanLaws}
 use Rattle.alg_divisors.proofs.Gcd
 use Rattle.alg_divisors.proofs.Gcd.{Coprime, Gcd}
-use Rattle.alg_divisors.proofs.EuclideanPolynomials.{polynomials_euclidean}
+use Rattle.alg_divisors.proofs.EuclideanPolynomials.{over_field}
 use Rattle.alg_divisors.proofs.PolynomialFactors.{divides_to, divides_from}
 use Rattle.alg_divisors.proofs.Finite.{IsFinite}
 use Rattle.alg_divisors.proofs.Existence.{irreducible_divisor_exists}
-use Rattle.alg_rings.proofs.Powers
 use Rattle.alg_fields.proofs.Derivatives
 use Rattle.alg_fields.proofs.Derivatives.{raw_derivative}
 use Rattle.alg_fields.proofs.Derivations.{derivative_of, product_rule}
 use Rattle.alg_fields.proofs.Squares
 use Rattle.alg_fields.proofs.Remainders.{divides_iff_remainder_zero}
 use Rattle.alg_fields.proofs.FermatProduct.{fixing}
+use Rattle.alg_fields.proofs.ValueConstants.{constant_value_homomorphism}
 use Rattle.alg_finite.proofs.FiniteField.{FiniteField, frobenius, above_one, pow_strict, pow_positive}
 use Rattle.alg_finite.proofs.Orbits.{period_divides}
 use Rattle.alg_finite.proofs.RootExistence.{fixing_polynomial, length_fixing_polynomial, fixing_monic, evaluate_fixing, divides_fixing}
@@ -93,14 +94,8 @@ module _ {A : Type 0} {o : Ops A} (R : RingLaws o) where
 
 module _ {X : Type 0} {c : Carrier X} (P : IsPropositional c) (Fc : IsField c) {p m : ℕ}
     (K : FiniteField (element_ops Fc.ring) p m) where
-  abbrev Q : Ops (Polynomial c)
-  Q = polynomial_ops P Fc.ring
-
-  abbrev EU : EuclideanLaws (polynomial_ops P Fc.ring) (λ f. length f.0) (λ f. IsMonic c f.0)
-  EU = polynomials_euclidean P Fc
-
-  abbrev k : Ops (Element c)
-  k = element_ops Fc.ring
+  open over_field P Fc use {ops as Q, laws as EU}
+  open on_elements P Fc.ring use {ops as k}
 
   -- all elements stand in a list
   pub finite_carrier : IsFinite c
@@ -173,7 +168,7 @@ module _ {X : Type 0} {c : Carrier X} (P : IsPropositional c) (Fc : IsField c) {
         })
         j (Rings.same_from_difference L.ring (frobenius W (p ^ m) j x) x
         (sym (evaluate_fixing P Fc L.ring
-        (Values.constant_element_homomorphism P Fc f irreducible.not_constant monic irreducible)
+        (constant_value_homomorphism P Fc f irreducible.not_constant monic)
         ((p ^ m) ^ j) (above j l) x)
         ∙ Values.value_at_generator_element P Fc f irreducible.not_constant monic (N j l)
         ∙ Values.same_value P Fc f irreducible.not_constant monic _ _

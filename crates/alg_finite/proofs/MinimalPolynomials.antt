@@ -4,12 +4,12 @@
 -- are one orbit.
 use Rattle.std.proofs.Common.{◌≡◌, ◌≢◌, ⊎_elim, ℕ, suc, ◌^◌, ◌<◌, List, [], ◌∷◌, length, map, slice_index_or, ap, sym, ◌∙◌, arith}
 use Rattle.std.proofs.lemmas.List.{length-map}
-use Rattle.alg_rings.proofs.Divisibility
 use Rattle.alg_model.specs.Coefficients.{Ops, Carrier}
 use Rattle.alg_model.specs.Polynomials.{evaluate, leading}
 use Rattle.alg_model.specs.Factors.{IsMonic, IsIrreducible, IsProperFactor}
 use Rattle.alg_model.specs.Values.{degree}
 use Rattle.alg_model.specs.Fields.{IsField}
+use Rattle.alg_rings.proofs.Divisibility
 use Rattle.alg_rings.specs.Laws.{FieldLaws, IsPropositional}
 use Rattle.alg_rings.proofs.Rings
 use Rattle.alg_rings.proofs.Division.{zero_from_product}
@@ -17,11 +17,11 @@ use Rattle.alg_rings.proofs.CarrierPolynomials.{leading_not_zero}
 use Rattle.alg_rings.proofs.Elements.{Element, underlying, element_ops}
 use Rattle.alg_rings.proofs.Homomorphisms.{Homomorphism}
 use Rattle.alg_rings.proofs.Divisors.{Polynomial, polynomial_ops, same_polynomial}
+use Rattle.alg_rings.proofs.Evaluation
 use Rattle.alg_divisors.proofs.Euclidean
 use Rattle.alg_divisors.proofs.Euclidean.{EuclideanLaws}
-use Rattle.alg_divisors.proofs.EuclideanPolynomials.{polynomials_euclidean}
+use Rattle.alg_divisors.proofs.EuclideanPolynomials.{over_field}
 use Rattle.alg_divisors.proofs.PolynomialFactors.{divides_to, divides_from, irreducible_same}
-use Rattle.alg_rings.proofs.Evaluation
 use Rattle.alg_fields.proofs.Roots.{linear, linear_product, value_of_linear}
 use Rattle.alg_finite.proofs.FiniteField.{FiniteField, frobenius}
 use Rattle.alg_finite.proofs.Orbits.{Orbit, Period, orbit, orbit_of, orbit_at, length_orbit, length_orbit_polynomial, leading_orbit_polynomial, orbit_polynomial_vanishes, vanishing_is_long}
@@ -51,11 +51,7 @@ module _ {X : Type 0} {c : Carrier X} (P : IsPropositional c) (Fc : IsField c) {
     (K : FiniteField (element_ops Fc.ring) p m)
     {A : Type 0} {o : Ops A} {n : ℕ} (F : FiniteField o p n) {h : Element c → A}
     (H : Homomorphism (element_ops Fc.ring) o h) where
-  abbrev Q : Ops (Polynomial c)
-  Q = polynomial_ops P Fc.ring
-
-  abbrev EU : EuclideanLaws (polynomial_ops P Fc.ring) (λ f. length f.0) (λ f. IsMonic c f.0)
-  EU = polynomials_euclidean P Fc
+  open over_field P Fc use {ops as Q, laws as EU}
 
   -- a polynomial that isn't zero and vanishes at a has more coefficients than the orbit of a has
   -- members

@@ -19,9 +19,11 @@ use Rattle.alg_rings.proofs.Lists
 use Rattle.alg_rings.proofs.Trims
 use Rattle.alg_rings.proofs.Homomorphisms.{Homomorphism, product-map, leading-map}
 use Rattle.alg_rings.proofs.Evaluation
+use Rattle.alg_rings.proofs.Decisions.{Least, search_below}
+use Rattle.alg_rings.proofs.Rings.{equal_or_not}
 use Rattle.alg_fields.proofs.Roots.{linear, linear_product, linear_product_is, value_of_linear}
-use Rattle.alg_finite.proofs.Enumerations.{Distinct, first_below}
-use Rattle.alg_finite.proofs.FieldMaps.{equal_or_not, injective}
+use Rattle.alg_finite.proofs.Enumerations.{Distinct}
+use Rattle.alg_finite.proofs.FieldMaps.{injective}
 use Rattle.alg_finite.proofs.FiniteField.{FiniteField, frobenius, frobenius_none, frobenius_next, frobenius_add, frobenius_of_power, frobenius_multiple, frobenius_remainder, frobenius_homomorphism, frobenius_cancel, root_bound_at, above_one}
 use Rattle.alg_finite.proofs.Extensions.{fixed_is_image, frobenius_of_value}
 
@@ -150,17 +152,17 @@ module _ {A : Type 0} {o : Ops A} {p n : ℕ} (F : FiniteField o p n) (m : ℕ) 
   -- each a has a period
   pub period_exists : (d : ℕ) × Period o (p ^ m) a d
   period_exists = ⊎_elim
-      (λ f. (
-        suc f.0,
+      (λ (f : Least (λ i. frobenius o (p ^ m) (suc i) a ≡ a) n). (
+        suc f.number,
         record {
           positive = omega arith;
-          returns = f.2;
-          least = λ j l e. above f.0 f.3 j l e;
+          returns = f.holds;
+          least = λ j l e. above f.number f.least j l e;
         },
       ))
       (λ none. let l : 0 < n = F.positive in
       absurd (none (n - 1) (omega arith) (last_returns (n - 1) (omega arith))))
-      (first_below (λ i. frobenius o (p ^ m) (suc i) a ≡ a) return_or_not n)
+      (search_below (λ i. frobenius o (p ^ m) (suc i) a ≡ a) n (λ i l. return_or_not i))
     where
       above : (i : ℕ) → ((j : ℕ) → j < i → frobenius o (p ^ m) (suc j) a ≡ a → ⊥) → (j : ℕ) → 0 < j
           → frobenius o (p ^ m) j a ≡ a → suc i ≤ j

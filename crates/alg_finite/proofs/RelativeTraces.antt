@@ -4,6 +4,7 @@ use Rattle.std.proofs.Math.Nat.{mul_assoc}
 use Rattle.alg_model.specs.Coefficients.{Ops, power}
 use Rattle.alg_rings.proofs.Rings
 use Rattle.alg_rings.proofs.Homomorphisms.{Homomorphism, power-map}
+use Rattle.alg_rings.proofs.Folds.{fold, IsCommutative, Keeps, sums, products, sums_kept, products_kept, fold_same, fold-map}
 use Rattle.alg_finite.proofs.Enumerations.{Distinct}
 use Rattle.alg_finite.proofs.FiniteField.{FiniteField, frobenius, frobenius_of_power, frobenius_multiple, frobenius_homomorphism, pow_mul, above_one}
 use Rattle.alg_finite.proofs.Extensions.{fixed_is_image}
@@ -31,20 +32,21 @@ module _ {A B : Type 0} {k : Ops B} {o : Ops A} {h : B → A} (H : Homomorphism 
   -- **traces and norms lie in B**
   pub trace_is_image : (a : A) → (b : B) × (h b ≡ Traces.trace_of o (p ^ m) e a)
   trace_is_image a = fixed_is_image H K F.field (above_one K) (Traces.trace_of o (p ^ m) e a)
-      (Traces.trace_fixed F.field (p ^ m) (powers_keep F m) e a (all_back a)
-      (frobenius_homomorphism F.field F.prime F.characteristic m))
+      (Traces.conjugates_fixed F.field.ring (p ^ m) (sums F.field.ring) e a (all_back a)
+      (sums_kept (frobenius_homomorphism F.field F.prime F.characteristic m)))
 
   -- norms lie in B
   pub norm_is_image : (a : A) → (b : B) × (h b ≡ Traces.norm_of o (p ^ m) e a)
   norm_is_image a = fixed_is_image H K F.field (above_one K) (Traces.norm_of o (p ^ m) e a)
-      (Traces.norm_fixed F.field (p ^ m) (powers_keep F m) e a (all_back a)
-      (frobenius_homomorphism F.field F.prime F.characteristic m))
+      (Traces.conjugates_fixed F.field.ring (p ^ m) (products F.field.ring) e a (all_back a)
+      (products_kept (frobenius_homomorphism F.field F.prime F.characteristic m)))
 
   -- **the trace is linear over B**
   pub trace_sum : (a b : A)
       → Traces.trace_of o (p ^ m) e (o.add a b)
       ≡ o.add (Traces.trace_of o (p ^ m) e a) (Traces.trace_of o (p ^ m) e b)
-  trace_sum a b = Traces.trace_of_sum F.field (p ^ m) (powers_keep F m) e a b
+  trace_sum a b = Traces.conjugates_of_both F.field.ring (p ^ m) (sums F.field.ring)
+      (λ i. sums_kept (powers_keep F m i)) e a b
 
   -- a member of B comes out of a trace
   pub trace_multiple : (c : B) (a : A)
@@ -56,7 +58,8 @@ module _ {A B : Type 0} {k : Ops B} {o : Ops A} {h : B → A} (H : Homomorphism 
   pub norm_product : (a b : A)
       → Traces.norm_of o (p ^ m) e (o.mul a b)
       ≡ o.mul (Traces.norm_of o (p ^ m) e a) (Traces.norm_of o (p ^ m) e b)
-  norm_product a b = Traces.norm_of_product F.field (p ^ m) (powers_keep F m) e a b
+  norm_product a b = Traces.conjugates_of_both F.field.ring (p ^ m) (products F.field.ring)
+      (λ i. products_kept (powers_keep F m i)) e a b
 
   -- **powers of x below e part any two values by trace**, where x, x^q, .. are e different values
   pub trace_parts : (x : A) → Distinct (λ i. frobenius o (p ^ m) i x) e → 0 < e → (a b : A) → a ≢ b
@@ -117,22 +120,27 @@ module _ {A B : Type 0} {k : Ops B} {o : Ops A} {h : B → A} (H : Homomorphism 
       ∙ sym (frobenius_of_power F.field.ring p m (d * i) a
       ∙ ap (λ j. frobenius o p j a) (sym (mul_assoc m d i)))
 
+  -- the same for sums and products
+  conjugates_of_conjugates : {v : B} {w : B → B → B} {u : A} {c : A → A → A} → Keeps h v w u c
+      → IsCommutative u c → ((i : ℕ) → Keeps (frobenius o (p ^ m) i) u c u c)
+      → h b ≡ fold u c e (λ i. frobenius o (p ^ (m * d)) i a)
+      → h (fold v w d (λ j. frobenius k (p ^ m) j b))
+      ≡ fold u c (d * e) (λ i. frobenius o (p ^ m) i a)
+  conjugates_of_conjugates {v} {w} {u} {c} K C T s =
+      fold-map K d (λ j. frobenius k (p ^ m) j b)
+      ∙ fold_same u c d _ _
+      (λ j l. power-map H b ((p ^ m) ^ j)
+      ∙ ap (frobenius o (p ^ m) j) (s ∙ fold_same u c e _ _ (λ i l. frobenius_block i)))
+      ∙ Traces.conjugates_transitive F.field.ring (p ^ m) C T d e a
+
   -- the trace of the trace
   pub trace_of_trace : h b ≡ Traces.trace_of o (p ^ (m * d)) e a
       → h (Traces.trace_of k (p ^ m) d b) ≡ Traces.trace_of o (p ^ m) (d * e) a
-  trace_of_trace s =
-      Traces.total-map H d (λ j. frobenius k (p ^ m) j b)
-      ∙ Traces.sums_same o d _ _
-      (λ j. power-map H b ((p ^ m) ^ j)
-      ∙ ap (frobenius o (p ^ m) j) (s ∙ Traces.sums_same o e _ _ frobenius_block))
-      ∙ Traces.trace_transitive F.field (p ^ m) (powers_keep F m) d e a
+  trace_of_trace = conjugates_of_conjugates (sums_kept H) (sums F.field.ring)
+      (λ i. sums_kept (powers_keep F m i))
 
   -- the norm of the norm
   pub norm_of_norm : h b ≡ Traces.norm_of o (p ^ (m * d)) e a
       → h (Traces.norm_of k (p ^ m) d b) ≡ Traces.norm_of o (p ^ m) (d * e) a
-  norm_of_norm s =
-      Traces.product-map H d (λ j. frobenius k (p ^ m) j b)
-      ∙ Traces.product_same o d _ _
-      (λ j. power-map H b ((p ^ m) ^ j)
-      ∙ ap (frobenius o (p ^ m) j) (s ∙ Traces.product_same o e _ _ frobenius_block))
-      ∙ Traces.norm_transitive F.field (p ^ m) (powers_keep F m) d e a
+  norm_of_norm = conjugates_of_conjugates (products_kept H) (products F.field.ring)
+      (λ i. products_kept (powers_keep F m i))

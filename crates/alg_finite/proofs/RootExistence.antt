@@ -1,28 +1,30 @@
 -- A monic irreducible polynomial of degree d over a field with q members has a root in a field
 -- with q^e members exactly if d divides e.
-use Rattle.std.proofs.Common.{◌≡◌, ◌≢◌, ◌⊎◌, ⊎_elim, inl, inr, ℕ, zero, suc, ◌*◌, ◌%◌, ◌^◌, ◌<◌, [], ◌∷◌, length, map, refl, ap, ap₂, sym, ◌∙◌, arith}
+use Rattle.std.proofs.Common.{◌≡◌, ◌≢◌, ◌⊎◌, ⊎_elim, ℕ, zero, suc, ◌*◌, ◌%◌, ◌^◌, ◌<◌, [], ◌∷◌, length, map, refl, ap, ap₂, sym, ◌∙◌, arith}
 use Rattle.std.proofs.lemmas.List.{length-map}
-use Rattle.alg_rings.proofs.Divisibility
 use Rattle.alg_model.specs.Coefficients.{Ops, Carrier, power}
 use Rattle.alg_model.specs.Polynomials.{leading, sum, evaluate}
 use Rattle.alg_model.specs.Factors.{IsMonic, IsIrreducible, Divides}
 use Rattle.alg_model.specs.Values.{degree, values}
 use Rattle.alg_model.specs.Fields.{IsField}
+use Rattle.alg_rings.proofs.Divisibility
 use Rattle.alg_rings.specs.Laws.{RingLaws, FieldLaws, IsPropositional}
 use Rattle.alg_rings.proofs.Rings
 use Rattle.alg_rings.proofs.Monomials.{monomial}
 use Rattle.alg_rings.proofs.Division.{zero_from_product}
 use Rattle.alg_rings.proofs.CarrierPolynomials.{leading_not_zero}
-use Rattle.alg_rings.proofs.Elements.{Element, underlying, element_ops, element_laws}
+use Rattle.alg_rings.proofs.Elements.{Element, underlying, element_ops, element_laws, on_elements}
 use Rattle.alg_rings.proofs.Homomorphisms.{Homomorphism, sum-map, leading-map}
 use Rattle.alg_rings.proofs.Divisors.{Polynomial, polynomial_ops, same_polynomial}
+use Rattle.alg_rings.proofs.Decisions.{Least, search_below, fails_or_not}
 use Rattle.alg_divisors.proofs.Euclidean
 use Rattle.alg_divisors.proofs.Euclidean.{EuclideanLaws}
-use Rattle.alg_divisors.proofs.EuclideanPolynomials.{polynomials_euclidean}
+use Rattle.alg_divisors.proofs.EuclideanPolynomials.{over_field}
 use Rattle.alg_divisors.proofs.PolynomialFactors.{divides_from}
 use Rattle.alg_fields.proofs.Remainders.{divides_iff_remainder_zero}
 use Rattle.alg_fields.proofs.FermatProduct.{fixing, length_fixing, leading_fixing, value_of_fixing}
-use Rattle.alg_finite.proofs.Enumerations.{first_below, members_distinct}
+use Rattle.alg_fields.proofs.ValueConstants.{constant_value, constant_value_homomorphism}
+use Rattle.alg_finite.proofs.Enumerations.{members_distinct}
 use Rattle.alg_finite.proofs.FieldMaps.{injective}
 use Rattle.alg_finite.proofs.FiniteField.{FiniteField, frobenius_of_power, frobenius_multiple, root_bound_at, pow_mul, above_one}
 use Rattle.alg_finite.proofs.Orbits.{period_divides}
@@ -44,14 +46,8 @@ fixing-map {A} {B} {k} {o} {h} H n =
     (monomial-map H k.one n ∙ ap (λ t. monomial o t n) H.one)
 
 module _ {X : Type 0} {c : Carrier X} (P : IsPropositional c) (Fc : IsField c) where
-  abbrev Q : Ops (Polynomial c)
-  Q = polynomial_ops P Fc.ring
-
-  abbrev EU : EuclideanLaws (polynomial_ops P Fc.ring) (λ f. length f.0) (λ f. IsMonic c f.0)
-  EU = polynomials_euclidean P Fc
-
-  abbrev k : Ops (Element c)
-  k = element_ops Fc.ring
+  open over_field P Fc use {ops as Q, laws as EU}
+  open on_elements P Fc.ring use {ops as k}
 
   -- ---- the polynomial x^n - x
   pub leading_fixing_not_zero : (n : ℕ) → 1 < n
@@ -133,18 +129,19 @@ module _ {X : Type 0} {c : Carrier X} (P : IsPropositional c) (Fc : IsField c) w
         x = Values.generator_element P Fc f not_constant monic
 
         H : Homomorphism (element_ops Fc.ring) (Values.value_element_ops P Fc f not_constant monic)
-            (Values.constant_element P Fc f not_constant monic)
-        H = Values.constant_element_homomorphism P Fc f not_constant monic irreducible
+            (constant_value P Fc f not_constant monic)
+        H = constant_value_homomorphism P Fc f not_constant monic
 
     module _ {A : Type 0} {o : Ops A} (e : ℕ) (F : FiniteField o p (m * e)) {h : Element c → A}
         (H : Homomorphism (element_ops Fc.ring) o h) where
       -- **a root exists where the degree divides**
       pub root_exists : (t : ℕ) → e ≡ degree f.0 * t → (a : A) × (evaluate_by c h o f a ≡ o.zero)
       root_exists t r = ⊎_elim
-          (λ i. (
-            F.members.at i.0,
-            zero_from_product F.field (evaluate_by c h o s (F.members.at i.0))
-                (evaluate_by c h o f (F.members.at i.0)) (product_zero (F.members.at i.0)) i.2,
+          (λ (i : Least (λ i. evaluate_by c h o s (F.members.at i) ≢ o.zero) (p ^ (m * e))). (
+            F.members.at i.number,
+            zero_from_product F.field (evaluate_by c h o s (F.members.at i.number))
+                (evaluate_by c h o f (F.members.at i.number)) (product_zero (F.members.at i.number))
+                i.holds,
           ))
           (λ none. absurd (omega (
             arith,
@@ -155,9 +152,8 @@ module _ {X : Type 0} {c : Carrier X} (P : IsPropositional c) (Fc : IsField c) w
             vanishing_everywhere_is_long F H s (Euclidean.quotient_not_zero EU d n)
                 (λ i w. ⊎_elim (λ z. z) (λ z. absurd (none i w z)) (zero_or_not (F.members.at i))),
           )))
-          (first_below (λ i. evaluate_by c h o s (F.members.at i) ≢ o.zero)
-          (λ i. ⊎_elim (λ z. inr (λ y. y z)) (λ z. inl z) (zero_or_not (F.members.at i)))
-          (p ^ (m * e)))
+          (search_below (λ i. evaluate_by c h o s (F.members.at i) ≢ o.zero) (p ^ (m * e))
+          (λ i r. fails_or_not (zero_or_not (F.members.at i))))
         where
           size : (p ^ m) ^ (degree f.0 * t) ≡ p ^ (m * e)
           size = ap (λ j. (p ^ m) ^ j) (sym r) ∙ pow_mul p m e

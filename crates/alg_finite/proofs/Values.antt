@@ -1,9 +1,7 @@
 -- The values over a field c modulo an irreducible polynomial, as a quotient of the polynomials
 -- over c: remainders, constants
 -- and the generator.
-use Rattle.std.proofs.Common.{◌≡◌, ◌-◌, ◌<◌, List, [], ◌∷◌, length, map, refl, ap, ap₂, sym, ◌∙◌, arith, All}
-use Rattle.std.proofs.lemmas.List.{length-replicate}
-use Rattle.std.proofs.lemmas.List.Elements.{All-append, All-replicate}
+use Rattle.std.proofs.Common.{◌≡◌, ◌<◌, List, [], ◌∷◌, length, map, refl, ap, ap₂, sym, ◌∙◌, All}
 use Rattle.alg_model.specs.Coefficients.{Ops, Carrier}
 use Rattle.alg_model.specs.Polynomials.{evaluate, trim, scale, product}
 use Rattle.alg_model.specs.Factors.{IsMonic, IsIrreducible}
@@ -11,17 +9,16 @@ use Rattle.alg_model.specs.Values.{degree, padded, remainder, values}
 use Rattle.alg_model.specs.Fields.{IsField}
 use Rattle.alg_rings.specs.Laws.{IsPropositional, FieldLaws}
 use Rattle.alg_rings.proofs.Elements.{Element, underlying, element_ops, element_field, underlying_injective, elements, elements_are, underlying_valid}
-use Rattle.alg_rings.proofs.Homomorphisms.{Homomorphism}
 use Rattle.alg_rings.proofs.Divisors.{Polynomial, polynomial_ops, divides_itself}
 use Rattle.alg_rings.proofs.Lists
 use Rattle.alg_rings.proofs.Validity.{scale_valid, product_valid}
 use Rattle.alg_fields.proofs.Classes
 use Rattle.alg_fields.proofs.Classes.{class_of}
-use Rattle.alg_fields.proofs.Constants.{constant, alone, constant_homomorphism}
+use Rattle.alg_fields.proofs.Constants.{constant, alone}
 use Rattle.alg_fields.proofs.Generator
 use Rattle.alg_fields.proofs.Remainders
 use Rattle.alg_fields.proofs.ValueFields.{polynomial_of, values_propositional, values_ring, values_field}
-use Rattle.alg_finite.proofs.FieldMaps.{field_homomorphism}
+use Rattle.alg_fields.proofs.ValueConstants.{constant_value, constant_valid}
 
 -- a map that keeps zero, sums and products keeps the values of polynomials
 pub kept_value : {A B : Type 0} (o : Ops A) (o' : Ops B) (h : A → B) → h o.zero ≡ o'.zero
@@ -84,39 +81,15 @@ module _ {A : Type 0} {c : Carrier A} (P : IsPropositional c) (F : IsField c) (f
   remainder_zero = same_value _ _ refl
 
   -- ---- constants
-  pub constant_valid : (a : Element c) → (values c f.0).Valid (padded c.ops (degree f.0) (a.0 ∷ []))
-  constant_valid a = (
-    All-append c.Valid (a.0 ∷ []) _ (alone P F.ring a)
-        (All-replicate c.Valid _ c.ops.zero F.ring.zero_valid),
-    omega (arith, length-replicate (degree f.0 - 1) c.ops.zero),
-  )
-
-  -- an element of c as a value
-  abbrev pub constant_element : Element c → Element (values c f.0)
-  constant_element a = (padded c.ops (degree f.0) (a.0 ∷ []), constant_valid a)
-
   -- a constant is its own remainder
-  pub remainder_constant : (a : Element c) → remainder_element (constant P F.ring a) ≡ constant_element a
+  pub remainder_constant : (a : Element c)
+      → remainder_element (constant P F.ring a) ≡ constant_value P F f not_constant monic a
   remainder_constant a = same_value _ _
       (ap (remainder c.ops f.0) (sym
       (ap (λ g. g.0) (Classes.class_of_padded P F.ring (degree f.0) (a.0 ∷ []) (alone P F.ring a)
-      (constant_valid a).0)))
+      (constant_valid P F f not_constant monic a).0)))
       ∙ Remainders.remainder_of_value P F f not_constant monic (padded c.ops (degree f.0) (a.0 ∷ []))
-      (constant_valid a))
-
-  -- **constants keep the operations**
-  pub constant_element_homomorphism : IsIrreducible c f.0
-      → Homomorphism (element_ops F.ring) value_element_ops constant_element
-  constant_element_homomorphism i = field_homomorphism (element_field P F) (value_laws i)
-      (same_value _ _ refl)
-      (λ a b. sym (remainder_constant ((element_ops F.ring).add a b))
-      ∙ ap remainder_element ((constant_homomorphism P F.ring).add a b)
-      ∙ remainder_add (constant P F.ring a) (constant P F.ring b)
-      ∙ ap₂ value_element_ops.add (remainder_constant a) (remainder_constant b))
-      (λ a b. sym (remainder_constant ((element_ops F.ring).mul a b))
-      ∙ ap remainder_element ((constant_homomorphism P F.ring).mul a b)
-      ∙ remainder_mul (constant P F.ring a) (constant P F.ring b)
-      ∙ ap₂ value_element_ops.mul (remainder_constant a) (remainder_constant b))
+      (constant_valid P F f not_constant monic a))
 
   -- ---- the generator
   abbrev pub generator_element : Element (values c f.0)
@@ -127,19 +100,21 @@ module _ {A : Type 0} {c : Carrier A} (P : IsPropositional c) (F : IsField c) (f
 
   -- **the remainder of g is the value of g at the generator**
   pub value_at_generator_element : (g : Polynomial c)
-      → evaluate value_element_ops (map constant_element (coefficients g)) generator_element
+      → evaluate value_element_ops (map (constant_value P F f not_constant monic) (coefficients g))
+      generator_element
       ≡ remainder_element g
   value_at_generator_element g =
       ap (λ w. evaluate value_element_ops w generator_element)
-      (sym (map_twice remainder_element (constant P F.ring) constant_element remainder_constant
-      (coefficients g)))
+      (sym (map_twice remainder_element (constant P F.ring)
+      (constant_value P F f not_constant monic) remainder_constant (coefficients g)))
       ∙ sym (kept_value Q value_element_ops remainder_element remainder_zero remainder_add remainder_mul
       (map (constant P F.ring) (coefficients g)) (Generator.generator P F.ring))
       ∙ ap remainder_element (Generator.polynomial_is_value P F.ring g)
 
   -- **the generator is a root of f**
   pub generator_is_root : evaluate value_element_ops
-      (map constant_element (coefficients f)) generator_element ≡ value_element_ops.zero
+      (map (constant_value P F f not_constant monic) (coefficients f)) generator_element
+      ≡ value_element_ops.zero
   generator_is_root = value_at_generator_element f
       ∙ same_value _ _ ((Remainders.divides_iff_remainder_zero P F f not_constant monic f).0
       (divides_itself P F.ring f.0 f.1))
@@ -147,7 +122,8 @@ module _ {A : Type 0} {c : Carrier A} (P : IsPropositional c) (F : IsField c) (f
   -- each value is a polynomial in the generator
   pub value_from_generator : (v : Element (values c f.0))
       → (g : List (Element c))
-      × (evaluate value_element_ops (map constant_element g) generator_element ≡ v)
+      × (evaluate value_element_ops (map (constant_value P F f not_constant monic) g)
+      generator_element ≡ v)
   value_from_generator v =
       let g : Polynomial c = polynomial_of P F f not_constant monic v.0 v.1 in (
         coefficients g,
@@ -157,7 +133,8 @@ module _ {A : Type 0} {c : Carrier A} (P : IsPropositional c) (F : IsField c) (f
 
   -- a constant times a value is the value's multiple, place by place
   pub constant_times : (a : Element c) (v : Element (values c f.0))
-      → (value_element_ops.mul (constant_element a) v).0 ≡ scale c.ops a.0 v.0
+      → (value_element_ops.mul (constant_value P F f not_constant monic a) v).0
+      ≡ scale c.ops a.0 v.0
   constant_times a v =
       ap (λ w. w.0) (ap₂ value_element_ops.mul (sym (remainder_constant a)) (sym v_is)
       ∙ sym (remainder_mul (constant P F.ring a) V))
@@ -179,18 +156,21 @@ module _ {A : Type 0} {c : Carrier A} (P : IsPropositional c) (F : IsField c) (f
 
   -- the value of its own coefficients at the generator
   pub value_is_own_coefficients : (v : Element (values c f.0))
-      → evaluate value_element_ops (map constant_element (elements c v.0 v.1.0)) generator_element
+      → evaluate value_element_ops
+      (map (constant_value P F f not_constant monic) (elements c v.0 v.1.0)) generator_element
       ≡ v
   value_is_own_coefficients v = value_at_generator_list (elements c v.0 v.1.0)
       ∙ same_value _ _ (ap (λ w. remainder c.ops f.0 (trim c.ops w)) (elements_are c v.0 v.1.0)
       ∙ Remainders.remainder_of_value P F f not_constant monic v.0 v.1)
     where
       value_at_generator_list : (G : List (Element c))
-          → evaluate value_element_ops (map constant_element G) generator_element
+          → evaluate value_element_ops (map (constant_value P F f not_constant monic) G)
+          generator_element
           ≡ remainder_element (class_of P F.ring (map (underlying c) G) (underlying_valid c G))
       value_at_generator_list G =
           ap (λ w. evaluate value_element_ops w generator_element)
-          (sym (map_twice remainder_element (constant P F.ring) constant_element remainder_constant G))
+          (sym (map_twice remainder_element (constant P F.ring)
+          (constant_value P F f not_constant monic) remainder_constant G))
           ∙ sym (kept_value Q value_element_ops remainder_element remainder_zero remainder_add remainder_mul
           (map (constant P F.ring) G) (Generator.generator P F.ring))
           ∙ ap remainder_element (Generator.value_at_generator P F.ring G (underlying_valid c G))

@@ -1,7 +1,7 @@
 -- Embeddings of finite fields and roots: an embedding exists where degrees divide, one for each
 -- root; two differ by a power of
 -- Frobenius; images are what a power of Frobenius fixes.
-use Rattle.std.proofs.Common.{◌≡◌, ◌≢◌, ◌⊎◌, ◌↔◌, ⊎_elim, inl, inr, ℕ, ◌%◌, ◌^◌, ◌<◌, List, [], ◌∷◌, refl, ap, ap₂, sym, ◌∙◌, subst, Ordering, Less, Equal, Greater, nat_cmp, ◌+◌, add_comm}
+use Rattle.std.proofs.Common.{◌≡◌, ◌↔◌, ℕ, ◌%◌, ◌^◌, ◌<◌, List, [], ◌∷◌, refl, ap, ap₂, sym, ◌∙◌, subst, Ordering, Less, Equal, Greater, nat_cmp, ◌+◌, add_comm}
 use Rattle.std.specs.Ordering.{ordering_reverse}
 use Rattle.std.proofs.lemmas.Cmp.{nat_cmp_total, on_total}
 use Rattle.std.proofs.lemmas.Bool.{cases_eq}
@@ -14,6 +14,7 @@ use Rattle.alg_model.specs.Factors.{IsPolynomial, order_by}
 use Rattle.alg_model.specs.Maps.{Field, IsFiniteField, field_values, degree_of, generator, constants, apply, comp, identity_map, powers, frobenius_map, IsEmbedding}
 use Rattle.alg_model.specs.Roots.{IsRoot, IsLeastRoot}
 use Rattle.alg_rings.proofs.Elements.{Element, underlying_injective}
+use Rattle.alg_rings.proofs.Decisions.{lists_equal_or_not}
 use Rattle.alg_rings.proofs.Homomorphisms.{power-map}
 use Rattle.alg_rings.proofs.PolynomialOrder.{order_by_total, order_by_same, nat_cmp_same}
 use Rattle.alg_finite.proofs.FiniteField.{frobenius, frobenius_none, frobenius_add}
@@ -25,15 +26,6 @@ use Rattle.alg_galois.proofs.FieldFrobenius
 use Rattle.alg_galois.proofs.Embeddings.{of_two_fields, identity_embedding, apply_identity, frobenius_embedding, apply_frobenius, apply_valid, embedding_injective, embedding_is_powers_of_image, embeddings_equal, generator_is_value, comp_embedding, apply_comp}
 
 -- ---- least roots
-lists_equal_or_not : (x y : List ℕ) → (x ≡ y) ⊎ (x ≢ y)
-lists_equal_or_not [] [] = inl refl
-lists_equal_or_not [] (b ∷ y) = inr (λ e. cc)
-lists_equal_or_not (a ∷ x) [] = inr (λ e. cc)
-lists_equal_or_not (a ∷ x) (b ∷ y) = ⊎_elim
-    (λ e. ⊎_elim (λ s. inl (ap₂ ◌∷◌ e s)) (λ n. inr (λ s. let t : x ≡ y = cc in n t))
-    (lists_equal_or_not x y))
-    (λ n. inr (λ s. let t : a ≡ b = cc in n t)) (cases_eq a b)
-
 -- **where there is a root, there is a least one**
 pub least_root_exists : (F : Field) → IsFiniteField F → (g : List (List ℕ)) (w : List ℕ)
     → IsRoot F g w → (v : List ℕ) × IsLeastRoot F g v
@@ -46,7 +38,7 @@ least_root_exists F W g w r =
     least_member (finite F.characteristic W.characteristic F.polynomial (modulus_of F W)).members
     (on_total (λ a. a.0) (order_by_total nat_cmp_total))
     (λ a. evaluate (field_values F).ops g a.0 ≡ (field_values F).ops.zero)
-    (λ a. lists_equal_or_not _ _) (w, r.0) r.1 in
+    (λ a. lists_equal_or_not cases_eq _ _) (w, r.0) r.1 in
     (a.0.0, record { root = (a.0.1, a.1); least = λ u s b. a.2 (u, s.0) s.1 b })
 
 -- and it is the only one
@@ -124,16 +116,23 @@ module _ (E F : Field) (V : IsFiniteField E) (W : IsFiniteField F) where
   -- **which agree exactly if they agree modulo the degree**
   pub root_powers_agree : E.characteristic ≡ F.characteristic → (v : List ℕ)
       → IsRoot F (constants F E.polynomial) v → (s t : ℕ)
-      → power (field_values F).ops v (F.characteristic ^ s)
-      ≡ power (field_values F).ops v (F.characteristic ^ t) → s % degree_of E ≡ t % degree_of E
+      → (power (field_values F).ops v (F.characteristic ^ s)
+      ≡ power (field_values F).ops v (F.characteristic ^ t)) ↔ (s % degree_of E ≡ t % degree_of E)
   root_powers_agree e v r s t = of_two_fields (λ E F. IsRoot F (constants F E.polynomial) v
-      → power (field_values F).ops v (F.characteristic ^ s)
-      ≡ power (field_values F).ops v (F.characteristic ^ t) → s % degree_of E ≡ t % degree_of E)
-      (λ p h f M g N r q. FieldFrobenius.powers_agree_on_root p h f M g N (v, r.0)
-      (root_from p h f M g N v r) s t
-      (underlying_injective (propositional p h g N) _ _
-      (power_value p h g N (v, r.0) (p ^ s) ∙ q ∙ sym (power_value p h g N (v, r.0) (p ^ t))))) E F
-      V W e r
+      → (power (field_values F).ops v (F.characteristic ^ s)
+      ≡ power (field_values F).ops v (F.characteristic ^ t)) ↔ (s % degree_of E ≡ t % degree_of E))
+      (λ p h f M g N r. (
+        λ q. FieldFrobenius.powers_agree_on_root p h f M g N (v, r.0)
+            (root_from p h f M g N v r) s t
+            (underlying_injective (propositional p h g N) _ _
+            (power_value p h g N (v, r.0) (p ^ s) ∙ q
+            ∙ sym (power_value p h g N (v, r.0) (p ^ t)))),
+        λ q. sym (power_value p h g N (v, r.0) (p ^ s))
+            ∙ ap (λ y. y.0) (FieldFrobenius.same_powers_on_root p h f M g N (v, r.0)
+            (root_from p h f M g N v r) s t q)
+            ∙ power_value p h g N (v, r.0) (p ^ t),
+      ))
+      E F V W e r
 
   -- **a root gives an embedding, its powers, that sends the generator to it**
   pub embedding_of_root : E.characteristic ≡ F.characteristic → (v : List ℕ)
@@ -197,7 +196,15 @@ module _ (E F : Field) (V : IsFiniteField E) (W : IsFiniteField F) where
         (λ p h f M g N D. ap (λ y. y.0) (function_homomorphism p h f M g N m D).zero) E F V W
         D.same_characteristic D
 
-    -- **a value is a root exactly if its image is**
+    -- **the image of a root is a root**
+    pub root_to_image : (g : List ℕ) → IsPolynomial (residues E.characteristic) g → (a : List ℕ)
+        → IsRoot E (constants E g) a → IsRoot F (constants F g) (apply F m a)
+    root_to_image q k a r = (
+      apply_valid E F V W m D a r.0,
+      sym (apply_value_at q k a r.0) ∙ ap (apply F m) r.1 ∙ zero_kept,
+    )
+
+    -- **and only that of a root**
     pub root_from_image : (g : List ℕ) → IsPolynomial (residues E.characteristic) g → (a : List ℕ)
         → (field_values E).Valid a
         → IsRoot F (constants F g) (apply F m a) → IsRoot E (constants E g) a
@@ -294,8 +301,8 @@ module _ (E F : Field) (V : IsFiniteField E) (W : IsFiniteField F) where
         → (comp F m (frobenius_map F s) ≡ comp F m (frobenius_map F t))
         ↔ (s % degree_of E ≡ t % degree_of E)
     powers_after_embedding s t = (
-      (λ e. root_powers_agree D.same_characteristic (apply F m (generator E))
-          (generator_image_root m D) s t
+      (λ e. (root_powers_agree D.same_characteristic (apply F m (generator E))
+          (generator_image_root m D) s t).0
           (sym (apply_after_frobenius s (generator E) (generator_is_value E F V W))
           ∙ ap (λ c. apply F c (generator E)) e
           ∙ apply_after_frobenius t (generator E) (generator_is_value E F V W))),
@@ -342,6 +349,23 @@ module _ (F : Field) (W : IsFiniteField F) where
       ≡ power (field_values F).ops a (F.characteristic ^ t)
   power_is a va t = power_value F.characteristic W.characteristic F.polynomial (modulus_of F W)
       (a, va) (F.characteristic ^ t)
+
+  -- **powers of Frobenius send roots to roots**
+  pub powers_are_roots : (f : List ℕ) → IsPolynomial (residues F.characteristic) f → (a : List ℕ)
+      → IsRoot F (constants F f) a → (t : ℕ)
+      → IsRoot F (constants F f) (power (field_values F).ops a (F.characteristic ^ t))
+  powers_are_roots f k a r t = subst (IsRoot F (constants F f)) (apply_frobenius F W t a r.0)
+      (root_to_image F F W W (frobenius_map F t) (frobenius_embedding F W t) f k a r)
+
+  -- **they agree on the generator exactly if they agree modulo the degree**
+  pub generator_powers_agree : (s t : ℕ)
+      → (power (field_values F).ops (generator F) (F.characteristic ^ s)
+      ≡ power (field_values F).ops (generator F) (F.characteristic ^ t))
+      ↔ (s % degree_of F ≡ t % degree_of F)
+  generator_powers_agree = root_powers_agree F F W W refl (generator F)
+      (subst (IsRoot F (constants F F.polynomial))
+      (apply_identity F W (generator F) (generator_is_value F F W W))
+      (generator_image_root F F W W (identity_map F) (identity_embedding F W)))
 
   -- **the power 0 of Frobenius is the identity**
   pub frobenius_zero : frobenius_map F 0 ≡ identity_map F

@@ -105,7 +105,18 @@ module _ (p : ℕ) (h : IsPrime p) (f : List ℕ) (M : IsModulus p f) (g : List 
         (modulus p h f M) M.monic M.irreducible v root w e in
         (r.0, r.1, ap (λ q. frobenius FO q r.0 v) (sym (pow_one p)) ∙ r.2)
 
-    -- powers of Frobenius agree on a root exactly if they agree modulo the degree
+    -- powers of Frobenius that agree modulo the degree agree on a root
+    pub same_powers_on_root : (s t : ℕ)
+        → s % degree_of (field_of p f) ≡ t % degree_of (field_of p f)
+        → frobenius (ops p h g N) p s v ≡ frobenius (ops p h g N) p t v
+    same_powers_on_root s t e =
+        frobenius_remainder (laws p h g N).ring p (degree_of (field_of p f)) v
+        field_root_period.returns s
+        ∙ ap (λ i. frobenius FO p i v) e
+        ∙ sym (frobenius_remainder (laws p h g N).ring p (degree_of (field_of p f)) v
+        field_root_period.returns t)
+
+    -- and only these do
     pub powers_agree_on_root : (s t : ℕ)
         → frobenius (ops p h g N) p s v ≡ frobenius (ops p h g N) p t v
         → s % degree_of (field_of p f) ≡ t % degree_of (field_of p f)

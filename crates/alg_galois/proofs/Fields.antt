@@ -2,9 +2,10 @@
 -- of one characteristic.
 --     IsModulus p f     f is monic and irreducible over the residues modulo p
 --     field_of p f      the field with this characteristic and this polynomial
-use Rattle.std.proofs.Common.{◌≡◌, ℕ, suc, ◌+◌, ◌%◌, ◌<◌, ◌≤◌, List, [], ◌∷◌, map, refl, ap, ap₂, sym, ◌∙◌, subst, arith, ◌*◌}
+use Rattle.std.proofs.Common.{◌≡◌, ℕ, suc, ◌+◌, ◌%◌, ◌<◌, ◌≤◌, List, [], ◌∷◌, map, refl, ap, ap₂, sym, ◌∙◌, subst, arith, ◌*◌, length}
 use Rattle.std.proofs.Math.Nat.{one-mul, mod-eq_of_lt}
 use native.Mathlib.Nat.{mod-add-mod}
+use Rattle.std.proofs.lemmas.List.Elements.{All-nil, All-cons}
 use Rattle.alg_model.specs.Coefficients.{Ops, Carrier, power, residues, IsPrime}
 use Rattle.alg_model.specs.Polynomials.{evaluate}
 use Rattle.alg_model.specs.Factors.{IsMonic, IsIrreducible}
@@ -16,6 +17,7 @@ use Rattle.alg_rings.proofs.Homomorphisms.{Homomorphism, evaluate-map, power-map
 use Rattle.alg_rings.proofs.ResidueFields.{prime_residues_field, residues_propositional}
 use Rattle.alg_rings.proofs.Divisors.{Polynomial}
 use Rattle.alg_fields.proofs.ValueFields.{values_propositional}
+use Rattle.alg_fields.proofs.ValueConstants.{constant_value, constant_value_homomorphism}
 use Rattle.alg_finite.proofs.FiniteField.{FiniteField}
 use Rattle.alg_finite.proofs.Evaluation.{coefficients, evaluate_by}
 use Rattle.alg_finite.proofs.Values
@@ -32,6 +34,24 @@ modulus_of K W = record { monic = W.monic; irreducible = W.irreducible }
 -- the field with characteristic p and polynomial f
 abbrev pub field_of : ℕ → List ℕ → Field
 field_of p f = record { characteristic = p; polynomial = f }
+
+-- **the field with p elements, whose polynomial is x, is a finite field**
+pub prime_field_finite : (p : ℕ) → IsPrime p → IsFiniteField (field_of p (0 ∷ 1 ∷ []))
+prime_field_finite p h = record {
+  characteristic = h;
+  monic = refl;
+  irreducible = record {
+    polynomial = (
+      All-cons (λ a. a < p) 0 (1 ∷ []) (let l : 1 < p = h.above_one in omega arith)
+          (All-cons (λ a. a < p) 1 [] h.above_one (All-nil (λ a. a < p))),
+      refl,
+    );
+    not_constant = omega arith;
+    no_factor = λ g P. let a : 1 < length g = P.not_constant in
+        let b : length g < 2 = P.smaller in
+        omega arith;
+  };
+}
 
 -- what holds of the polynomial of E over the characteristic of F holds of E
 pub at_one_characteristic : (E : Field) (p : ℕ) → E.characteristic ≡ p → (T : Field → Type 0)
@@ -115,15 +135,15 @@ module _ (p : ℕ) (h : IsPrime p) (f : List ℕ) (M : IsModulus p f) where
 
   -- ---- constants
   abbrev pub of_residue : Element (residues p) → Element (field_values (field_of p f))
-  of_residue = Values.constant_element (residues_propositional p)
+  of_residue = constant_value (residues_propositional p)
       (prime_residues_field p h) modulus M.irreducible.not_constant M.monic
 
   -- constants keep the operations
   abbrev pub of_residue_homomorphism : Homomorphism
       (element_ops (prime_residues_field p h).ring) ops of_residue
   of_residue_homomorphism =
-      Values.constant_element_homomorphism (residues_propositional p)
-      (prime_residues_field p h) modulus M.irreducible.not_constant M.monic M.irreducible
+      constant_value_homomorphism (residues_propositional p)
+      (prime_residues_field p h) modulus M.irreducible.not_constant M.monic
 
   -- the value of a polynomial over the prime field, as an element and as a list
   pub evaluate_constants : (g : Polynomial (residues p)) (a : Element (field_values (field_of p f)))

@@ -129,9 +129,10 @@ module _ (I J K L : Field) (RI : IsFiniteField I) (RJ : IsFiniteField J) (RK : I
         ap (λ y. power (field_values K).ops y (K.characteristic ^ degree_of L)) (sym w)
         ∙ EmbeddingRoots.image_fixed L K RL RK (comp K u a) into z.0 z.1 ∙ w in
         dvd_of_mod-eq-zero (degree_of D)
-        (EmbeddingRoots.root_powers_agree D K RD RK C.same_characteristic (apply K (comp K s a) x)
+        ((EmbeddingRoots.root_powers_agree D K RD RK C.same_characteristic
+        (apply K (comp K s a) x)
         (EmbeddingRoots.generator_image_root D K RD RK (comp K s a) C)
-        (degree_of L) 0 (back ∙ sym
+        (degree_of L) 0).0 (back ∙ sym
         (none (apply K (comp K s a) x) (apply_valid D K RD RK (comp K s a) C x vx)))
         ∙ zero-mod (degree_of D))
       where

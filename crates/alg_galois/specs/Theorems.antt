@@ -3,12 +3,12 @@
 use Rattle.std.specs.Prelude.{◌≡◌, ◌≢◌, ◌↔◌, ℕ, ◌/◌, ◌%◌, ◌^◌, ◌<◌, List, length, map, All, AllPairs, Contains}
 use Rattle.std.specs.Int.{IsGcd}
 use Prim.Native.Nat.{◌∣◌}
-use Rattle.alg_model.specs.Coefficients.{power, IsPrime}
+use Rattle.alg_model.specs.Coefficients.{power, residues, IsPrime}
 use Rattle.alg_model.specs.Polynomials.{evaluate}
 use Rattle.alg_model.specs.Factors.{IsPolynomial, IsIrreducible, Divides}
 use Rattle.alg_model.specs.Fields.{IsField}
 use Rattle.alg_model.specs.Maps.{Field, IsFiniteField, field_values, degree_of, generator, constant, constants, apply, comp, powers, frobenius_map, IsEmbedding, IsMeet}
-use Rattle.alg_model.specs.Roots.{IsRoot, IsLeastRoot, IsLeastIrreducible, IsMinimalOver}
+use Rattle.alg_model.specs.Roots.{IsRoot, IsLeastRoot, IsLeastIrreducible, IsMinimal, IsMinimalOver}
 use Rattle.alg_model.specs.Conjugates.{trace, norm, trace_over, norm_over}
 
 -- ---- the residue field
@@ -35,11 +35,34 @@ FrobeniusHasOrder = (F : Field) → IsFiniteField F → (t : ℕ)
     → (power (field_values F).ops (generator F) (F.characteristic ^ t) ≡ generator F)
     ↔ (degree_of F ∣ t)
 
+-- the powers p^s and p^t of the generator agree exactly if s and t agree modulo n: its orbit has n
+-- members
+abbrev pub GeneratorOrbitIsLong : Type 0
+GeneratorOrbitIsLong = (F : Field) → IsFiniteField F → (s t : ℕ)
+    → (power (field_values F).ops (generator F) (F.characteristic ^ s)
+    ≡ power (field_values F).ops (generator F) (F.characteristic ^ t))
+    ↔ (s % degree_of F ≡ t % degree_of F)
+
+-- Frobenius to the power t is an embedding of the field in itself, and sends a to a^(p^t)
+abbrev pub FrobeniusIsEmbedding : Type 0
+FrobeniusIsEmbedding = (F : Field) → IsFiniteField F → (t : ℕ)
+    → IsEmbedding F F (frobenius_map F t)
+    × ((a : List ℕ) → (field_values F).Valid a
+    → apply F (frobenius_map F t) a ≡ power (field_values F).ops a (F.characteristic ^ t))
+
 -- a value is its own power p exactly if it is a constant
 abbrev pub FrobeniusFixesConstants : Type 0
 FrobeniusFixesConstants = (F : Field) → IsFiniteField F → (a : List ℕ) → (field_values F).Valid a
     → (power (field_values F).ops a F.characteristic ≡ a)
     ↔ ((t : ℕ) × (t < F.characteristic) × (constant F t ≡ a))
+
+-- ---- roots
+-- with a root a of a polynomial over the prime field, a^p, a^(p^2), .. are roots of it too
+abbrev pub PowersAreRoots : Type 0
+PowersAreRoots = (F : Field) → IsFiniteField F
+    → (f : List ℕ) → IsPolynomial (residues F.characteristic) f
+    → (a : List ℕ) → IsRoot F (constants F f) a → (t : ℕ)
+    → IsRoot F (constants F f) (power (field_values F).ops a (F.characteristic ^ t))
 
 -- ---- roots of the polynomial of E in F
 -- where the degree of E divides that of F, there is a root, and a least one
@@ -60,15 +83,15 @@ RootsAreOneOrbit = (E F : Field) → IsFiniteField E → IsFiniteField F
     → (v w : List ℕ) → IsRoot F (constants F E.polynomial) v → IsRoot F (constants F E.polynomial) w
     → (t : ℕ) × (t < degree_of E) × (power (field_values F).ops v (F.characteristic ^ t) ≡ w)
 
--- powers p^s and p^t of a root agree only where s and t agree modulo the degree of E: the orbit
+-- the powers p^s and p^t of a root agree exactly if s and t agree modulo the degree of E: the orbit
 -- has that many members
 abbrev pub OrbitIsLong : Type 0
 OrbitIsLong = (E F : Field) → IsFiniteField E → IsFiniteField F
     → E.characteristic ≡ F.characteristic
     → (v : List ℕ) → IsRoot F (constants F E.polynomial) v → (s t : ℕ)
-    → power (field_values F).ops v (F.characteristic ^ s)
-    ≡ power (field_values F).ops v (F.characteristic ^ t)
-    → s % degree_of E ≡ t % degree_of E
+    → (power (field_values F).ops v (F.characteristic ^ s)
+    ≡ power (field_values F).ops v (F.characteristic ^ t))
+    ↔ (s % degree_of E ≡ t % degree_of E)
 
 -- ---- embeddings
 -- the powers of a root are an embedding that sends the generator to the root
@@ -178,6 +201,31 @@ IrreducibleExists = (p d : ℕ) → IsPrime p → 0 < d → (f : List ℕ) × Is
 abbrev pub LeastIsUnique : Type 0
 LeastIsUnique = (p d : ℕ) (f g : List ℕ) → IsLeastIrreducible p d f → IsLeastIrreducible p d g
     → f ≡ g
+
+-- ---- minimal polynomials over the prime field
+-- each value of F has one
+abbrev pub PrimeMinimalExists : Type 0
+PrimeMinimalExists = (F : Field) → IsFiniteField F → (a : List ℕ) → (field_values F).Valid a
+    → (g : List ℕ) × IsMinimal F a g
+
+-- and one alone
+abbrev pub PrimeMinimalIsUnique : Type 0
+PrimeMinimalIsUnique = (F : Field) → IsFiniteField F → (a : List ℕ) → (field_values F).Valid a
+    → (g f : List ℕ) → IsMinimal F a g → IsMinimal F a f → g ≡ f
+
+-- which is irreducible
+abbrev pub PrimeMinimalIsIrreducible : Type 0
+PrimeMinimalIsIrreducible = (F : Field) → IsFiniteField F
+    → (a : List ℕ) → (field_values F).Valid a → (g : List ℕ) → IsMinimal F a g
+    → IsIrreducible (residues F.characteristic) g
+
+-- and divides each polynomial that vanishes there
+abbrev pub PrimeMinimalDivides : Type 0
+PrimeMinimalDivides = (F : Field) → IsFiniteField F → (a : List ℕ) → (field_values F).Valid a
+    → (g : List ℕ) → IsMinimal F a g
+    → (f : List ℕ) → IsPolynomial (residues F.characteristic) f
+    → evaluate (field_values F).ops (constants F f) a ≡ (field_values F).ops.zero
+    → Divides (residues F.characteristic) g f
 
 -- ---- minimal polynomials over a subfield E
 -- each value of F has one

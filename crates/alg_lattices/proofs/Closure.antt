@@ -3,6 +3,7 @@
 use Rattle.std.proofs.Common.{◌≡◌, ◌⊎◌, ℕ, ◌<◌, ◌≤◌, sym, ap, ◌∙◌, inl, inr, ⊎_elim}
 use Rattle.std.proofs.lemmas.Bool.{cases_eq}
 use Rattle.std.specs.Int.{IsGcd}
+use Rattle.alg_rings.proofs.Decisions.{Least, search_below, both_or_not}
 use Rattle.alg_lattices.specs.Embeddings.{Embeddings}
 use Rattle.alg_lattices.specs.Lattices.{Lattice, IsDecided}
 use Rattle.alg_lattices.specs.Filling.{IsSubfield, Insertion, IsMember, IsClosureDegree, IsMissing, IsMapInto}
@@ -10,7 +11,6 @@ use Rattle.alg_lattices.specs.Filling.IsMember.{of_source, of_target}
 use Rattle.alg_lattices.specs.Filling.IsClosureDegree.{of_member, of_gcd}
 use Rattle.alg_lattices.specs.Filling.IsMapInto.{stored, through, made}
 use Rattle.alg_lattices.proofs.AddedFields.{Added, added_missing, added_each}
-use Rattle.alg_lattices.proofs.Decisions.{Least, search_below, both_or_not}
 use Rattle.alg_lattices.proofs.ForcedMaps.{Setting}
 
 module _ {Field Map : Type 0} {L : Lattice Field Map} (D : IsDecided L) (E F : ℕ) where

@@ -1,12 +1,12 @@
 -- It can be told which pairs have a map after an insertion.
 use Rattle.std.proofs.Common.{◌⊎◌, ℕ, ◌<◌, inl, inr, ⊎_elim, arith}
 use Rattle.std.proofs.lemmas.Bool.{cases_lt}
+use Rattle.alg_rings.proofs.Decisions.{Least, search_below, divides_or_not}
 use Rattle.alg_lattices.specs.Embeddings.{Embeddings}
 use Rattle.alg_lattices.specs.Lattices.{IsDecided, IsStoredPair}
 use Rattle.alg_lattices.specs.Filling.{IsSubfield, Insertion, filled}
 use Rattle.alg_lattices.specs.Filling.IsStoredAfter.{before, forced, beyond}
 use Rattle.alg_lattices.specs.Rules.{IsWay}
-use Rattle.alg_lattices.proofs.Decisions.{Least, search_below, divides_or_not}
 use Rattle.alg_lattices.proofs.ForcedMaps.{Setting}
 use Rattle.alg_lattices.proofs.ForcedMaps
 use Rattle.alg_lattices.proofs.StoredMaps

@@ -1,6 +1,5 @@
 pub mod Congruences
 pub mod ChineseRemainders
-pub mod Decisions
 pub mod Rows
 pub mod AddedFields
 pub mod Meets

@@ -1,17 +1,17 @@
 -- The closure of the members' degrees under gcd can be computed: so there is a list of the missing
 -- degrees, and it is one.
 --     Multiples o L E F d n g    g is the gcd of the degrees that d divides, of the members below n
-use Rattle.std.proofs.Common.{◌≡◌, ◌⊎◌, ℕ, zero, suc, ◌<◌, ◌≤◌, List, sym, subst, inl, inr, ⊎_elim, arith}
+use Rattle.std.proofs.Common.{◌≡◌, ◌⊎◌, ℕ, zero, suc, ◌+◌, ◌<◌, ◌≤◌, List, sym, ap, subst, inl, inr, ⊎_elim, arith}
 use Rattle.std.proofs.lemmas.Bool.{cases_eq}
 use Rattle.std.proofs.lemmas.Nat.Gcd.{dvd_refl, dvd_trans, dvd_antisymm, le_of_dvd}
 use Prim.Native.Nat.{◌∣◌}
+use Rattle.alg_rings.proofs.Decisions.{Least, search_below, divides_or_not, both_or_not}
 use Rattle.alg_lattices.specs.Embeddings.{Embeddings, EmbeddingLaws, FrobeniusLaws}
 use Rattle.alg_lattices.specs.Lattices.{Lattice, Compatible, IsDecided}
 use Rattle.alg_lattices.specs.Filling.{IsCandidate, IsMember, IsClosureDegree, IsMissing, AreMissing}
 use Rattle.alg_lattices.specs.Filling.IsMember.{of_source, of_target}
 use Rattle.alg_lattices.specs.Filling.IsClosureDegree.{of_member, of_gcd}
 use Rattle.alg_lattices.proofs.Congruences.{Bezout, bezout}
-use Rattle.alg_lattices.proofs.Decisions.{Least, search_below, divides_or_not, both_or_not}
 use Rattle.alg_lattices.proofs.RisingLists.{Listed, listed, rising_one}
 use Rattle.alg_lattices.proofs.Closure.{member_or_not}
 
@@ -125,23 +125,50 @@ closure_divides_target {o = o} {L = L} {E} {F} law C I c = closure_divides (o.de
     divides i (of_source h) = law.degree_divides (law.comp (C.embedding h) I.embedding)
     divides i (of_target h) = law.degree_divides (C.embedding h)
 
+-- the degrees of the fields below a number have a bound
+bound_below : {Field Map : Type 0} (o : Embeddings Field Map) (row : ℕ → Field) (n : ℕ)
+    → (b : ℕ) × ((i : ℕ) → i < n → o.degree (row i) ≤ b)
+bound_below o row zero = (0, λ i h. absurd (omega arith))
+bound_below o row (suc n) = further (bound_below o row n)
+  where
+    further : (b : ℕ) × ((i : ℕ) → i < n → o.degree (row i) ≤ b)
+        → (b : ℕ) × ((i : ℕ) → i < suc n → o.degree (row i) ≤ b)
+    further (b, below) = (
+      b + o.degree (row n),
+      λ i h. ⊎_elim
+          (λ (e : i ≡ n).
+          let f : o.degree (row i) ≡ o.degree (row n) = ap (λ j. o.degree (row j)) e in
+          omega arith)
+          (λ k. let l : o.degree (row i) ≤ b = below i (omega arith) in omega arith)
+          (cases_eq i n),
+    )
+
 -- **there is a list of the missing degrees**
 pub missing_list : {Field Map : Type 0} {o : Embeddings Field Map} {primes : ℕ}
-    {L : Lattice Field Map} {E F : ℕ} {phi : Map}
-    → EmbeddingLaws o → FrobeniusLaws o → Compatible o primes L → IsDecided L
-    → IsCandidate o L E F phi
+    {L : Lattice Field Map}
+    → EmbeddingLaws o → FrobeniusLaws o → Compatible o primes L → IsDecided L → (E F : ℕ)
     → (ds : List ℕ) × AreMissing o L E F ds
-missing_list {o = o} {L = L} {E} {F} law frobenius C D I =
-    let l : Listed (IsMissing o L E F) (suc (o.degree (L.row F))) = listed (IsMissing o L E F) (missing_or_not D E F within) (suc (o.degree (L.row F))) in
+missing_list {o = o} {L = L} law frobenius C D E F =
+    let l : Listed (IsMissing o L E F) (suc bound.0) =
+    listed (IsMissing o L E F) (missing_or_not D E F within) (suc bound.0) in
     (l.list, record { rising = l.rising; exactly = λ d. (l.holds, λ m. l.all (small m) m) })
   where
+    bound : (b : ℕ) × ((i : ℕ) → i < L.count → o.degree (L.row i) ≤ b)
+    bound = bound_below o L.row L.count
+
     within : (i : ℕ) → IsMember L E F i → i < L.count
     within i (of_source h) = (C.within h).0
     within i (of_target h) = (C.within h).0
 
-    small : {d : ℕ} → IsMissing o L E F d → d < suc (o.degree (L.row F))
+    positive : {i : ℕ} → IsMember L E F i → 0 < o.degree (L.row i)
+    positive (of_source h) = frobenius.degree_positive (law.source (C.embedding h))
+    positive (of_target h) = frobenius.degree_positive (law.source (C.embedding h))
+
+    small : {d : ℕ} → IsMissing o L E F d → d < suc bound.0
     small {d} m =
-        let k : d ≤ o.degree (L.row F) = le_of_dvd (frobenius.degree_positive (law.target I.embedding)) (closure_divides_target law C I m.in_closure) in
+        let (i, k, e) = some_member m.in_closure in
+        let a : d ≤ o.degree (L.row i) = le_of_dvd (positive k) e in
+        let b : o.degree (L.row i) ≤ bound.0 = bound.1 i (within i k) in
         omega arith
 
 -- **and no other**

@@ -1,11 +1,11 @@
 -- What is stored after an insertion is what is stored by the rules.
 use Rattle.std.proofs.Common.{◌≡◌, ◌↔◌, ◌⊎◌, ℕ, ◌<◌, subst, inl, inr, ⊎_elim, arith}
+use Rattle.alg_rings.proofs.Decisions.{Least, search_below, divides_or_not, both_or_not}
 use Rattle.alg_lattices.specs.Embeddings.{Embeddings}
 use Rattle.alg_lattices.specs.Filling.{Insertion, IsSubfield, IsStoredAfter}
 use Rattle.alg_lattices.specs.Filling.IsStoredAfter.{before, forced, beyond}
 use Rattle.alg_lattices.specs.Rules.{IsWay, IsStoredByRules}
 use Rattle.alg_lattices.specs.Rules.IsStoredByRules.{members, overfield, as_before}
-use Rattle.alg_lattices.proofs.Decisions.{Least, search_below, divides_or_not, both_or_not}
 use Rattle.alg_lattices.proofs.ForcedMaps.{Setting}
 use Rattle.alg_lattices.proofs.ForcedMaps
 use Rattle.alg_lattices.proofs.StoredMaps.{IsBeyond}

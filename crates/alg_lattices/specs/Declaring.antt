@@ -1,5 +1,6 @@
 -- The lattice of the prime fields, and the lattice with one field more.
---     Declaration Field Map         a lattice, the fields after the declaration, and the map of the new field's prime field
+--     Declaration Field Map         a lattice, the fields after the declaration, and the map of the
+--                                   new field's prime field
 --     IsDeclaration o primes W      the new field has the next number, and isn't a prime field
 --     declared o W                  the lattice after the declaration
 --     opening o primes row          the prime fields and their identities

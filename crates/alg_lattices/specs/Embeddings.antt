@@ -1,5 +1,5 @@
 -- Fields and embeddings without their elements: what the theory of lattices needs of them.
---     Embeddings Field Map     fields, their degrees, the embeddings between them, and how they are composed
+--     Embeddings Field Map     fields, degrees, the embeddings between them, how they are composed
 --     EmbeddingLaws o          what embeddings of finite fields of one characteristic keep
 --     FrobeniusLaws o          two embeddings with the same ends differ by a power of Frobenius
 use Rattle.std.specs.Prelude.{◌≡◌, ◌↔◌, ℕ, ◌%◌, ◌<◌}
@@ -53,4 +53,5 @@ pub record FrobeniusLaws {Field Map : Type 0} (o : Embeddings Field Map) : Type 
   pub differ : {E F : Field} {m n : Map} → o.IsEmbedding E F m → o.IsEmbedding E F n
       → (t : ℕ) × (n ≡ o.comp F m (o.frobenius F t))
   pub period : {E F : Field} {m : Map} → o.IsEmbedding E F m → (s t : ℕ)
-      → (o.comp F m (o.frobenius F s) ≡ o.comp F m (o.frobenius F t)) ↔ (s % o.degree E ≡ t % o.degree E)
+      → (o.comp F m (o.frobenius F s) ≡ o.comp F m (o.frobenius F t))
+      ↔ (s % o.degree E ≡ t % o.degree E)

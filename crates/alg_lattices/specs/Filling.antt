@@ -1,13 +1,15 @@
 -- What an insertion of a map adds to a lattice. E is the source of the map, F its target.
---     IsCandidate o L E F phi       phi is an embedding that agrees with the common subfields of E and F
+--     IsCandidate o L E F phi       phi is an embedding that agrees with the common subfields
 --     IsMember L E F i              i is a stored subfield of E or of F
 --     IsClosureDegree, IsMissing    the members' degrees closed under gcd; those that no member has
 --     AreMissing o L E F ds         the list of the missing degrees
 --     Insertion Field Map           a lattice, the map chosen, and the fields after it
---     IsInsertion o W               the map is a candidate, and the fields that are added have the missing degrees
+--     IsInsertion o W               the map is a candidate, and the fields that are added have the
+--                                   missing degrees
 --     IsMapInto o W i m             m is the map of the member i into F
 --     IsSubfield o W i              i has a map into F
---     IsForced o W i j m            m is the one map which, followed by j's map into F, is i's map into F
+--     IsForced o W i j m            m is the one map which, followed by j's map into F, is i's map
+--                                   into F
 --     IsStoredAfter o W i k m       m is stored for i and k after the insertion
 --     filled o W                    the lattice after the insertion
 use Rattle.std.specs.Prelude.{◌≡◌, ◌+◌, length, slice_index, ◌↔◌, List, AllPairs, Contains, ℕ, ◌<◌, ◌≤◌}

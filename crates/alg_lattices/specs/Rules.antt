@@ -18,7 +18,8 @@ pub record IsWay {Field Map : Type 0} (o : Embeddings Field Map) (W : Insertion 
 -- both have maps into the target, and the degree of i divides that of k
 abbrev pub IsForcedPair : {Field Map : Type 0} → Embeddings Field Map → Insertion Field Map → ℕ → ℕ
     → Type 0
-IsForcedPair o W i k = IsSubfield o W i × IsSubfield o W k × (o.degree (W.row i) ∣ o.degree (W.row k))
+IsForcedPair o W i k = IsSubfield o W i × IsSubfield o W k
+    × (o.degree (W.row i) ∣ o.degree (W.row k))
 
 -- i alone has a map into the target, and there is a way into k
 abbrev pub IsPairBeyond : {Field Map : Type 0} → Embeddings Field Map → Insertion Field Map → ℕ → ℕ

@@ -1,5 +1,5 @@
 -- From matrices over a carrier, as lists, to functions of row and column with values in the carrier's elements, and back.
-use Rattle.std.proofs.Common.{◌≡◌, ℕ, zero, suc, ◌<◌, Bool, true, false, cond, ◌==◌, List, [], length, map, get_or, All, refl, ap, sym, ◌∙◌, subst, arith}
+use Rattle.std.proofs.Common.{◌≡◌, ℕ, ◌<◌, Bool, true, false, cond, ◌==◌, List, [], length, map, get_or, All, refl, ap, sym, ◌∙◌, subst, arith}
 use Rattle.std.specs.List.{range_with_len}
 use Rattle.std.proofs.lemmas.List.FromFn.{length-map-range_with_len, get_or-map-range_with_len}
 use Rattle.std.proofs.lemmas.List.Elements.{All-from_get_or}
@@ -7,8 +7,9 @@ use Rattle.alg_model.specs.Coefficients.{Carrier}
 use Rattle.alg_model.specs.Fields.{IsRing}
 use Rattle.alg_model.specs.Matrices.{Matrix, column_at, entry, zero_column, unit_column, combination, matrix_product, identity_matrix, IsColumn, IsMatrix}
 use Rattle.alg_rings.proofs.Validity.{place_valid}
-use Rattle.alg_rings.proofs.Elements.{Element, element_ops}
+use Rattle.alg_rings.proofs.Elements.{Element, element_ops, underlying_homomorphism}
 use Rattle.alg_rings.proofs.ValidEntries.{columns_valid_at}
+use Rattle.alg_rings.proofs.Folds.{sums_kept, fold-map}
 use Rattle.alg_linear.specs.PrivateElimination.{grid}
 use Rattle.alg_linear.specs.PrivateGrids.{total}
 use Rattle.alg_linear.proofs.Sums.{total_same}
@@ -36,8 +37,7 @@ module _ {A : Type 0} {c : Carrier A} (R : IsRing c) where
   matrix_of n m X = record { rows = n; columns = map (λ j. column_of n (λ i. X i j)) (range_with_len 0 m) }
 
   pub total_value : (n : ℕ) (f : ℕ → Element c) → (total (element_ops R) n f).0 ≡ total c.ops n (λ k. (f k).0)
-  total_value zero f = refl
-  total_value (suc n) f = ap (c.ops.add (f 0).0) (total_value n (λ k. f (suc k)))
+  total_value n f = fold-map (sums_kept (underlying_homomorphism R)) n f
 
   pub delta_value : (i j : ℕ) → (delta (element_ops R) i j).0 ≡ delta c.ops i j
   delta_value i j = at (i == j)

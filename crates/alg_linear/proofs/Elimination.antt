@@ -2,17 +2,17 @@
 use Rattle.std.proofs.Common.{◌≡◌, ◌≢◌, ℕ, ◌+◌, ◌<◌, ◌≤◌, cond, List, [], ◌∷◌, ◌++◌, length, get_or, set, All, refl, ap, ap₂, sym, ◌∙◌, ⊎_elim, arith}
 use Rattle.std.specs.List.{swap}
 use Rattle.std.proofs.lemmas.Bool.{cases_eq, eq-eqb, ne_eqb}
-use Rattle.alg_rings.proofs.Rings.{zero_mul, add_zero}
-use Rattle.alg_rings.proofs.Validity.{scale_valid}
-use Rattle.alg_rings.proofs.CarrierPolynomials.{sum_at, scale_at}
 use Rattle.std.proofs.lemmas.List.{length-set, get_or-set_same, get_or-set_other}
 use Rattle.std.proofs.lemmas.List.Edits.{swap_is}
 use Rattle.alg_model.specs.Coefficients.{Ops, Carrier}
 use Rattle.alg_model.specs.Polynomials.{sum, scale}
 use Rattle.alg_model.specs.Fields.{IsRing}
 use Rattle.alg_model.specs.Matrices.{IsColumn}
-use Rattle.alg_rings.specs.Laws.{IsPropositional, RingLaws}
-use Rattle.alg_rings.proofs.Elements.{Element, element_ops, element_laws, underlying_injective}
+use Rattle.alg_rings.proofs.Rings.{zero_mul, add_zero}
+use Rattle.alg_rings.proofs.Validity.{scale_valid}
+use Rattle.alg_rings.proofs.CarrierPolynomials.{sum_at, scale_at}
+use Rattle.alg_rings.specs.Laws.{IsPropositional}
+use Rattle.alg_rings.proofs.Elements.{Element, underlying_injective, on_elements}
 use Rattle.alg_linear.specs.PrivateGrids.{RowEquivalent}
 use Rattle.alg_linear.proofs.RowOperations.{equivalent_itself, equivalent_then, equivalent_swapped, equivalent_scaled, equivalent_added, swap_rows, scale_row, add_row, swapped, swapped_first, swapped_to_first, swapped_other, swapped_below}
 use Rattle.alg_linear.specs.PrivateGrids.{IsReducedTo}
@@ -27,11 +27,7 @@ pub record IsPivotStep {A : Type 0} (o : Ops A) (m r s : ℕ) (u : A) (rows new 
       → get_or new i [] ≡ sum o (scale o (o.neg (get_or (get_or rows (swapped r s i) []) m o.zero)) (scale o u (get_or rows s []))) (get_or rows (swapped r s i) [])
 
 module _ {A : Type 0} {c : Carrier A} (P : IsPropositional c) (R : IsRing c) where
-  abbrev B : Ops (Element c)
-  B = element_ops R
-
-  abbrev L : RingLaws B
-  L = element_laws P R
+  open on_elements P R use {ops as B, laws as L}
 
   pub eliminated_start : (w : ℕ) (rows : List (List A)) → All (IsColumn c w) rows → IsEliminated R w (length rows) 0 rows rows []
   eliminated_start w rows v = record {

@@ -2,13 +2,12 @@
 use Rattle.std.proofs.Common.{◌≡◌, ◌≢◌, ℕ, zero, suc, ◌<◌, refl, ap, ap₂, sym, ◌∙◌, arith}
 use Rattle.alg_model.specs.Coefficients.{Ops}
 use Rattle.alg_rings.specs.Laws.{RingLaws}
-use Rattle.alg_rings.proofs.Rings.{add_zero, add_swap, mul_zero, neg_zero, neg_sum}
+use Rattle.alg_rings.proofs.Rings.{add_zero, mul_zero, neg_zero, neg_sum}
+use Rattle.alg_rings.proofs.Folds.{sums, fold_same, fold_unit, fold_both, fold_swap, fold_last}
 use Rattle.alg_linear.specs.PrivateGrids.{total}
 
 pub total_same : {A : Type 0} (o : Ops A) (n : ℕ) (f g : ℕ → A) → ((k : ℕ) → k < n → f k ≡ g k) → total o n f ≡ total o n g
-total_same o zero f g h = refl
-total_same o (suc n) f g h =
-    ap₂ o.add (h 0 (omega arith)) (total_same o n (λ k. f (suc k)) (λ k. g (suc k)) (λ k l. h (suc k) (omega arith)))
+total_same o n f g h = fold_same o.zero o.add n f g h
 
 module _ {A : Type 0} {o : Ops A} (R : RingLaws o) where
   open o use {zero as O, one as I, add as ◌⊕◌, mul as ◌⊗◌, neg}
@@ -16,14 +15,10 @@ module _ {A : Type 0} {o : Ops A} (R : RingLaws o) where
   infixl 60 ◌⊕◌
   infixl 70 ◌⊗◌
   pub total_zero : (n : ℕ) (f : ℕ → A) → ((k : ℕ) → k < n → f k ≡ O) → total o n f ≡ O
-  total_zero zero f h = refl
-  total_zero (suc n) f h =
-      ap₂ ◌⊕◌ (h 0 (omega arith)) (total_zero n (λ k. f (suc k)) (λ k l. h (suc k) (omega arith))) ∙ R.zero_add O
+  total_zero n f h = fold_unit (sums R) n f h
 
   pub total_add : (n : ℕ) (f g : ℕ → A) → total o n (λ k. f k ⊕ g k) ≡ total o n f ⊕ total o n g
-  total_add zero f g = sym (R.zero_add O)
-  total_add (suc n) f g =
-      ap (λ w. f 0 ⊕ g 0 ⊕ w) (total_add n (λ k. f (suc k)) (λ k. g (suc k))) ∙ add_swap R (f 0) (g 0) _ _
+  total_add n f g = fold_both (sums R) n f g
 
   pub total_neg : (n : ℕ) (f : ℕ → A) → total o n (λ k. neg (f k)) ≡ neg (total o n f)
   total_neg zero f = sym (neg_zero R)
@@ -39,9 +34,7 @@ module _ {A : Type 0} {o : Ops A} (R : RingLaws o) where
 
   pub total_swap : (n m : ℕ) (f : ℕ → ℕ → A)
       → total o n (λ i. total o m (f i)) ≡ total o m (λ j. total o n (λ i. f i j))
-  total_swap zero m f = sym (total_zero m (λ _. O) (λ _ _. refl))
-  total_swap (suc n) m f =
-      ap (λ w. total o m (f 0) ⊕ w) (total_swap n m (λ i. f (suc i))) ∙ sym (total_add m (f 0) (λ j. total o n (λ i. f (suc i) j)))
+  total_swap n m f = fold_swap (sums R) n m f
 
   -- a sum whose members are zero but for one
   pub total_single : (n : ℕ) (f : ℕ → A) (j : ℕ) → j < n → ((k : ℕ) → k < n → k ≢ j → f k ≡ O) → total o n f ≡ f j
@@ -70,6 +63,4 @@ module _ {A : Type 0} {o : Ops A} (R : RingLaws o) where
 
   -- the sum with its last member taken off
   pub total_last : (n : ℕ) (f : ℕ → A) → total o (suc n) f ≡ total o n f ⊕ f n
-  total_last zero f = add_zero R (f 0) ∙ sym (R.zero_add (f 0))
-  total_last (suc n) f =
-      ap (λ w. f 0 ⊕ w) (total_last n (λ k. f (suc k))) ∙ sym (R.add_assoc (f 0) (total o n (λ k. f (suc k))) (f (suc n)))
+  total_last n f = fold_last (sums R) n f

@@ -1,8 +1,10 @@
 -- Which embeddings of field E into field F a compatible lattice allows, and the degrees that it
 -- lacks then.
 --     map_sending E F v, embedding_by L E F v     the map that sends the generator of E to v
---     IsSent F m sending         the prescribed value of E is sent to the prescribed value of F, if any are
---     IsCandidate L E F sending v     sending the generator of E to v is an embedding that agrees with all common subfields
+--     IsSent F m sending         the prescribed value of E is sent to the prescribed value of F, if
+--                                any are
+--     IsCandidate L E F sending v     sending the generator of E to v is an embedding that agrees
+--                                     with all common subfields
 --     IsChoice L E F sending v   the first candidate
 --     IsMember L E F i           i is a stored subfield of E or of F
 --     IsClosureDegree L E F d    the members' degrees, closed under gcd
@@ -31,7 +33,8 @@ pub record IsCandidate (L : Lattice) (E F : ℕ) (sending : Option (List ℕ × 
     : Type 0 where
   pub value : (field_values (field_at L.rows F)).Valid v
   pub embedding : IsEmbedding (field_at L.rows E) (field_at L.rows F) (embedding_by L E F v)
-  pub generator : apply (field_at L.rows F) (embedding_by L E F v) (generator (field_at L.rows E)) ≡ v
+  pub generator :
+      apply (field_at L.rows F) (embedding_by L E F v) (generator (field_at L.rows E)) ≡ v
   -- a common subfield's map into E, followed by this one, is its map into F
   pub agrees : {d : ℕ} {m n : List (List ℕ)} → Stored L d E m → Stored L d F n
       → comp (field_at L.rows F) m (embedding_by L E F v) ≡ n

@@ -5,8 +5,9 @@
 --     Carrier A                     operations, and which of the a : A are elements
 --     tested o test                 the carrier of the elements that pass a test
 --     residues p                    the residues modulo p: the numbers below p
---     IsPrime p                     p is above 1 and a product of two numbers only where one of them is 1
---     IsCharacteristic p            p is one of the characteristics, which are the 18 primes below 64
+--     IsPrime p                     p is above 1 and a product of two numbers only where one of
+--                                   them is 1
+--     IsCharacteristic p            p is one of the characteristics, the 18 primes below 64
 use Rattle.std.specs.Prelude.{◌≡◌, ◌⊎◌, ℕ, zero, suc, ◌+◌, ◌-◌, ◌*◌, ◌%◌, ◌<◌, ◌==◌, Bool, List, [], ◌∷◌, Contains, IsTrue}
 
 pub record Ops (A : Type 0) : Type 0 where

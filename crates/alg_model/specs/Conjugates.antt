@@ -2,9 +2,9 @@
 --     conjugates o q n a           a, a^q, a^(q^2), .., n of them
 --     sum_all o xs, product_all o xs     the sum and the product of a list
 --     trace F a, norm F a          the sum and the product of a, a^p, .., a^(p^(deg F - 1)):
--- constants of F
+--                                  constants of F
 --     trace_over E F a, norm_over E F a     the same of a, a^q, .. for q = p^deg E, deg F / deg E
--- of them
+--                                  of them
 use Rattle.std.specs.Prelude.{ℕ, ◌/◌, ◌^◌, List, [], ◌∷◌, map}
 use Rattle.std.specs.List.{range_with_len}
 use Rattle.alg_model.specs.Coefficients.{Ops, power}

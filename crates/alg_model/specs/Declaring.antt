@@ -1,7 +1,8 @@
 -- The lattice of the prime fields, and a lattice with one field more.
 --     IsOpening L               the prime fields of the edition, and their identities
 --     prime_map K               the map of the prime field of K's characteristic into K
---     IsStoredWith L q row i j m     m is stored for i and j once `row` is declared, whose prime field is q
+--     IsStoredWith L q row i j m     m is stored for i and j once `row` is declared, whose prime
+--                                    field is q
 --     IsDeclared L row M        M is L with this row, its identity and its prime field's map
 use Rattle.std.specs.Prelude.{◌≡◌, ◌↔◌, ℕ, ◌<◌, List, [], ◌∷◌, ◌++◌, length, map}
 use Rattle.alg_model.specs.Maps.{Field, field_values, identity_map}

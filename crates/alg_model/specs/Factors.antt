@@ -1,12 +1,14 @@
--- Divisors of polynomials over any carrier: a polynomial has valid coefficients and no zero at its end.
+-- Divisors of polynomials over any carrier: a polynomial has valid coefficients and no zero at its
+-- end.
 --     IsPolynomial c f             f is a polynomial over c
 --     IsMonic c f                  its last coefficient is one
 --     Divides c g f                some polynomial times g is f
 --     IsDivision c f d q r         f = q * d + r, and r has fewer coefficients than d
---     IsGreatestCommonDivisor c a b g     g divides both, each common divisor divides g, and g is monic or zero
+--     IsGreatestCommonDivisor c a b g     g divides both, each common divisor divides g, and g is
+--                                         monic or zero
 --     IsProperFactor c f g         a monic divisor of f, of degree above 0 and below that of f
 --     IsIrreducible c f              f isn't constant and has no proper factor
---     order_by cmp f g             the number of coefficients first, then from the highest place down
+--     order_by cmp f g             number of coefficients first, then from the highest place down
 --     IsLeastFactor c cmp f g      g is the first proper factor of f in this order
 use Rattle.std.specs.Prelude.{◌≡◌, ◌⊎◌, ◌<◌, List, [], ◌∷◌, length, All}
 use Rattle.std.specs.declared.cmp.Ordering.{Ordering}

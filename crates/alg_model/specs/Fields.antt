@@ -1,5 +1,5 @@
 -- Commutative rings and fields: the laws that the operations of a carrier keep on its elements.
---     IsRing c      sums and products of elements are elements, and keep the laws of a commutative ring
+--     IsRing c      sums and products of elements are elements, with the laws of a commutative ring
 --     IsField c     a ring in which one isn't zero and each element but zero has an inverse
 use Rattle.std.specs.Prelude.{◌≡◌, ◌≢◌, ◌↔◌, IsTrue}
 use Rattle.alg_model.specs.Coefficients.{Carrier}
@@ -26,4 +26,5 @@ pub record IsRing {A : Type 0} (c : Carrier A) : Type 0 where
 pub record IsField {A : Type 0} (c : Carrier A) : Type 0 where
   pub ring : IsRing c
   pub one_not_zero : c.ops.one ≢ c.ops.zero
-  pub inverse : (x : A) → c.Valid x → x ≢ c.ops.zero → (y : A) × c.Valid y × (c.ops.mul x y ≡ c.ops.one)
+  pub inverse : (x : A) → c.Valid x → x ≢ c.ops.zero
+      → (y : A) × c.Valid y × (c.ops.mul x y ≡ c.ops.one)

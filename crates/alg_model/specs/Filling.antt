@@ -1,7 +1,8 @@
 -- What the embedding phi of field E into field F adds to a lattice L; `rows` are the rows
 -- afterwards.
 --     IsMapInto L E F phi rows i m     m is the map into F of the member or added field i
---     IsForced L E F phi rows i j m    m is the one map which, followed by j's map into F, is i's map into F
+--     IsForced L E F phi rows i j m    m is the one map which, followed by j's map into F, is i's
+--                                      map into F
 --     IsStoredAfter L E F phi rows i k m     m is stored for i and k afterwards
 --     IsMadeRow n p d row              an added field: number n, characteristic p, degree d
 --     AreRowsAfter L E F rows          the rows of L and the added ones
@@ -17,6 +18,7 @@ use Rattle.alg_model.specs.Candidates.{map_sending, AreMissing}
 pub data IsMapInto (L : Lattice) (E F : ℕ) (phi : List (List ℕ)) (rows : List Row) (i : ℕ)
     : List (List ℕ) → Type 0 where
   stored : {m : List (List ℕ)} → Stored L i F m → IsMapInto L E F phi rows i m
+  -- a common subfield of E and F has both maps: for a candidate these agree
   through : {m : List (List ℕ)} → Stored L i E m
       → IsMapInto L E F phi rows i (comp (field_at rows F) m phi)
   made : {v : List ℕ} → length L.rows ≤ i → i < length rows

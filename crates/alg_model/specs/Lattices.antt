@@ -1,17 +1,22 @@
 -- Lattices of finite fields: named fields by number, and maps between them.
---     Edition                    the characteristics in their order, the greatest degree, the greatest number of fields
+--     Edition                    the characteristics in their order, the greatest degree, the
+--                                greatest number of fields
+--     first_edition, second_edition     the two editions
 --     Row                        a field and its name
 --     Lattice                    an edition, the rows, and maps by pairs of numbers
 --     field_at rows i            field i
 --     Stored L i j m             m is the map from field i to field j
 --     Grows L M                  M has the rows of L first, and its maps
---     prime_row p, made_name n   the row of a prime field; the name of a field that the lattice made
+--     prime_row p, made_name n   the row of a prime field; the name of an added field
 --     IsEdition, IsRow, IsRows   what an edition is, and what rows a lattice of it may have
---     Compatible L               the maps are embeddings that agree, with all inverses, compositions and intersections
-use Rattle.std.specs.Prelude.{◌≡◌, ◌≢◌, ◌⊎◌, ℕ, ◌<◌, ◌≤◌, ◌^◌, List, [], ◌∷◌, ◌++◌, length, map, take, AllPairs, Contains, Some, codes, decimal, slice_index, slice_index_or}
+--     Compatible L               the maps are embeddings that agree, with all inverses,
+--                                compositions and intersections
+--     IsCompatible L             L is compatible, and its rows are rows of its edition
+use Rattle.std.specs.Prelude.{◌≡◌, ◌≢◌, ◌⊎◌, ℕ, ◌<◌, ◌≤◌, ◌^◌, List, [], ◌∷◌, ◌++◌, length, map, take, All, AllPairs, Contains, Some, codes, decimal, slice_index, slice_index_or}
 use Rattle.std.specs.FinMap.{FinMap, get}
 use Rattle.std.specs.Ordering.{nat_cmp, ordering_then}
 use Rattle.std.specs.declared.cmp.Ordering.{Ordering}
+use Rattle.alg_model.specs.Coefficients.{primes, IsPrime}
 use Rattle.alg_model.specs.Maps.{Field, IsFiniteField, degree_of, comp, identity_map, IsEmbedding, IsMeet}
 
 -- what a version of the lattice allows: its characteristics, in their order, the greatest degree,
@@ -20,6 +25,14 @@ pub record Edition : Type 0 where
   pub primes : List ℕ
   pub top : ℕ
   pub room : ℕ
+
+-- the 11 characteristics to 31, and degrees to 24
+abbrev pub first_edition : Edition
+first_edition = record { primes = take 11 primes; top = 24; room = 200 }
+
+-- all 18 characteristics, and degrees to 48
+abbrev pub second_edition : Edition
+second_edition = record { primes = primes; top = 48; room = 200 }
 
 -- a named field
 pub record Row : Type 0 where
@@ -56,23 +69,31 @@ pub record Grows (L M : Lattice) : Type 0 where
 
 -- the field of p elements, whose polynomial is x
 abbrev pub prime_row : ℕ → Row
-prime_row p = record { name = codes "F" ++ decimal p; field = record { characteristic = p; polynomial = 0 ∷ 1 ∷ [] } }
+prime_row p = record {
+  name = codes "F" ++ decimal p;
+  field = record { characteristic = p; polynomial = 0 ∷ 1 ∷ [] };
+}
 
 -- the name of an added field: `_` and its number
 abbrev pub made_name : ℕ → List ℕ
 made_name n = codes "_" ++ decimal n
 
--- a field of the edition, at number i; a name that begins with `_`, which is 95, is that of an added
--- field
+-- a field of the edition, at number i; a name that begins with `_`, which is 95, is that of an
+-- added field
 pub record IsRow (edition : Edition) (i : ℕ) (row : Row) : Type 0 where
   pub field : IsFiniteField row.field
   pub characteristic : Contains edition.primes row.field.characteristic
   pub degree : degree_of row.field ≤ edition.top
   pub name : (slice_index row.name 0 ≢ 95) ⊎ (row.name ≡ made_name i)
 
--- the characteristics differ, and the numbers of fields are machine words
+-- the characteristics are different primes, of which each is a machine word; degree 1 is allowed;
+-- there is room for the prime fields, and the number of fields is a machine word
 pub record IsEdition (edition : Edition) : Type 0 where
+  pub are_prime : All IsPrime edition.primes
+  pub are_words : All (λ p. p < 2 ^ 64) edition.primes
   pub primes_differ : AllPairs (λ p q. p ≢ q) edition.primes
+  pub top : 1 ≤ edition.top
+  pub prime_fields : length edition.primes ≤ edition.room
   pub room : edition.room < 2 ^ 64
 
 -- the prime fields come first, each row is one of the edition, and names differ
@@ -108,4 +129,10 @@ pub record Compatible (L : Lattice) : Type 0 where
   -- intersection
   pub meet : {i j k : ℕ} {a b : List (List ℕ)} → Stored L i k a → Stored L j k b
       → (l : ℕ) × (u : List (List ℕ)) × (v : List (List ℕ)) × Stored L l i u × Stored L l j v
-      × IsMeet (field_at L.rows i) (field_at L.rows j) (field_at L.rows k) (field_at L.rows l) u v a b
+      × IsMeet (field_at L.rows i) (field_at L.rows j) (field_at L.rows k) (field_at L.rows l)
+      u v a b
+
+-- a compatible lattice whose rows are rows of its edition
+pub record IsCompatible (L : Lattice) : Type 0 where
+  pub rows : IsRows L.edition L.rows
+  pub compatible : Compatible L

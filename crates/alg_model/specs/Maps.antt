@@ -10,7 +10,7 @@
 --     powers F v n                 1, v, .., v^(n - 1)
 --     frobenius_map F t            the map of F into itself that sends a to a^(p^t)
 --     IsEmbedding E F m            m keeps one, sums and products
---     IsMeet I J K L u v a b       what a and b send to one value of K comes by u and v from one of L
+--     IsMeet I J K L u v a b       what a and b send to one value comes by u and v from one of L
 use Rattle.std.specs.Prelude.{◌≡◌, ℕ, ◌^◌, List, [], ◌∷◌, length, map, All}
 use Rattle.std.specs.List.{range_with_len}
 use Rattle.alg_model.specs.Coefficients.{Carrier, power, mod_ops, residues, IsPrime}

@@ -6,10 +6,12 @@
 --     matrix_product o a b          its columns are a applied to those of b
 --     zero_column, unit_column      n zeros; n places of which the k-th is one
 --     identity_matrix o n           its columns are the n unit columns
---     IsColumn c n x, IsMatrix c m  n entries of the carrier; all columns have the matrix's number of rows
+--     IsColumn c n x, IsMatrix c m  n entries of the carrier; all columns have the matrix's number
+--                                   of rows
 --     IsInverse c m w, IsInvertible c m     both products are the identity
 --     IsReducedEchelon c m pivots   reduced row echelon form, with its pivot columns
---     IsReduction c m form transform pivots     form = transform * m is in that form, and transform has an inverse
+--     IsReduction c m form transform pivots     form = transform * m is in that form, for an
+--                                   invertible transform
 --     IsIndependent c n cs          only the zero combination gives the zero column
 --     IsInKernel c m x, IsKernelBasis c m basis     what m sends to zero, and a basis of it
 use Rattle.std.specs.Prelude.{◌≡◌, ℕ, ◌<◌, ◌≤◌, List, [], ◌∷◌, length, map, replicate, All, slice_index, slice_index_or, slice_set}
@@ -69,9 +71,11 @@ module _ {A : Type 0} (c : Carrier A) where
     pub within : (i : ℕ) → i < length pivots → slice_index pivots i < length m.columns
     pub rows_enough : length pivots ≤ m.rows
     -- in the i-th pivot column the entry is one at row i and zero elsewhere
-    pub pivot_column : (i : ℕ) → i < length pivots → column_at m (slice_index pivots i) ≡ unit_column c.ops m.rows i
+    pub pivot_column : (i : ℕ) → i < length pivots
+        → column_at m (slice_index pivots i) ≡ unit_column c.ops m.rows i
     -- before its pivot a row is zero
-    pub before_pivot : (i k : ℕ) → i < length pivots → k < slice_index pivots i → entry c.ops m i k ≡ c.ops.zero
+    pub before_pivot : (i k : ℕ) → i < length pivots → k < slice_index pivots i
+        → entry c.ops m i k ≡ c.ops.zero
     -- a row with no pivot is zero
     pub rest_zero : (r k : ℕ) → length pivots ≤ r → entry c.ops m r k ≡ c.ops.zero
 
@@ -82,16 +86,20 @@ module _ {A : Type 0} (c : Carrier A) where
     pub reduced : IsReducedEchelon form pivots
 
   abbrev pub IsIndependent : ℕ → List (List A) → Type 0
-  IsIndependent n cs = (x : List A) → IsColumn (length cs) x → combination c.ops n cs x ≡ zero_column c.ops n
+  IsIndependent n cs = (x : List A) → IsColumn (length cs) x
+      → combination c.ops n cs x ≡ zero_column c.ops n
       → x ≡ zero_column c.ops (length cs)
 
   abbrev pub IsInKernel : Matrix A → List A → Type 0
-  IsInKernel m x = IsColumn (length m.columns) x × (matrix_apply c.ops m x ≡ zero_column c.ops m.rows)
+  IsInKernel m x = IsColumn (length m.columns) x
+      × (matrix_apply c.ops m x ≡ zero_column c.ops m.rows)
 
   -- each column that m sends to zero is a combination of the basis, in one way
   pub record IsKernelBasis (m : Matrix A) (basis : List (List A)) : Type 0 where
     pub members : All (IsInKernel m) basis
     pub spans : (x : List A) → IsInKernel m x
-        → (y : List A) × IsColumn (length basis) y × (combination c.ops (length m.columns) basis y ≡ x)
+        → (y : List A) × IsColumn (length basis) y
+        × (combination c.ops (length m.columns) basis y ≡ x)
     pub one_way : (y z : List A) → IsColumn (length basis) y → IsColumn (length basis) z
-        → combination c.ops (length m.columns) basis y ≡ combination c.ops (length m.columns) basis z → y ≡ z
+        → combination c.ops (length m.columns) basis y
+        ≡ combination c.ops (length m.columns) basis z → y ≡ z

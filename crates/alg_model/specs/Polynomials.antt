@@ -1,9 +1,10 @@
--- Polynomials as lists of coefficients, lowest first, over any operations. A list may end in zeros; `trim` drops them.
+-- Polynomials as lists of coefficients, lowest first, over any operations. A list may end in zeros;
+-- `trim` drops them.
 --     sum, scale, shift, product     a + b; c * a; a * x; a * b, with zeros at the end kept
 --     trim f                         f without the zeros at its end
---     poly_sum, poly_negative, poly_difference, poly_product     the same with zeros at the end dropped
+--     poly_sum, poly_negative, poly_difference, poly_product     the same, zeros at the end dropped
 --     leading f                      the last coefficient; zero for the empty list
---     derivative f                   its k-th coefficient is k + 1 times the coefficient of f at k + 1
+--     derivative f                   its k-th coefficient is k + 1 times that of f at k + 1
 --     evaluate f a                   the sum of f's coefficients times the powers of a
 --     poly_power f n                 f * .. * f, n times
 --     convolution f g k              the sum of f_i * g_j over all i + j = k
@@ -77,7 +78,8 @@ module _ {A : Type 0} (o : Ops A) where
   abbrev pub convolution_to : ℕ → List A → List A → ℕ → A
   convolution_to zero f g k = o.mul (slice_index_or f 0 o.zero) (slice_index_or g k o.zero)
   convolution_to (suc n) f g k =
-      o.add (convolution_to n f g k) (o.mul (slice_index_or f (suc n) o.zero) (slice_index_or g (k - suc n) o.zero))
+      o.add (convolution_to n f g k)
+      (o.mul (slice_index_or f (suc n) o.zero) (slice_index_or g (k - suc n) o.zero))
 
   abbrev pub convolution : List A → List A → ℕ → A
   convolution f g k = convolution_to k f g k

@@ -3,9 +3,9 @@
 --     IsBefore a b                 a comes before b, from the highest place down
 --     IsLeastRoot F g v            the first of the roots
 --     IsLeastIrreducible p n f     the first monic irreducible polynomial of degree n over the
--- residues modulo p
+--                                  residues modulo p
 --     IsMinimal F a g              the monic polynomial of least degree over the prime field that
--- is zero at a
+--                                  is zero at a
 --     IsMinimalOver E F m a g      the same with coefficients in E, taken into F by the map m
 use Rattle.std.specs.Prelude.{◌≡◌, ℕ, ◌≤◌, List, length, map}
 use Rattle.std.specs.Ordering.{nat_cmp}

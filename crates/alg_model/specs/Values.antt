@@ -1,4 +1,5 @@
--- The values of a field: residues of polynomials modulo a monic f, as lists of exactly deg f coefficients.
+-- The values of a field: residues of polynomials modulo a monic f, as lists of exactly deg f
+-- coefficients.
 --     padded o n xs            xs with zeros at its end up to n places
 --     remainder o f xs           the remainder of xs by the monic f, as a list of deg f places
 --     value_ops o f            sums placewise, products reduced
@@ -17,7 +18,8 @@ module _ {A : Type 0} (o : Ops A) where
 
   -- x * r modulo the monic f, for r of n = deg f places: the top coefficient t of r gives -t * f
   abbrev pub times_x : List A → List A → List A
-  times_x f r = take (degree f) (sum o (o.zero ∷ r) (scale o (o.neg (slice_index_or r (degree f - 1) o.zero)) f))
+  times_x f r = take (degree f)
+      (sum o (o.zero ∷ r) (scale o (o.neg (slice_index_or r (degree f - 1) o.zero)) f))
 
   -- c + x * g has the remainder c + x * (remainder of g)
   abbrev pub remainder : List A → List A → List A

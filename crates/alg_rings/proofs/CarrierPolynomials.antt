@@ -4,27 +4,20 @@ use Rattle.std.proofs.lemmas.Bool.{eqb-true, eq-eqb}
 use Rattle.std.proofs.lemmas.List.{length-map, nil_from_length}
 use Rattle.std.proofs.lemmas.List.Elements.{All-nil, All-cons, All-tail}
 use mathlib.Core.List.{is_set}
-use Rattle.alg_model.specs.Coefficients.{Ops, Carrier}
+use Rattle.alg_model.specs.Coefficients.{Carrier}
 use Rattle.alg_model.specs.Polynomials.{scale, leading, convolution, sum, product, trim, poly_sum, poly_negative, poly_difference, poly_product, multiples_from, derivative, poly_power}
 use Rattle.alg_model.specs.Factors.{IsPolynomial}
 use Rattle.alg_model.specs.Fields.{IsRing}
-use Rattle.alg_rings.specs.Laws.{RingLaws, IsPropositional, polynomials}
+use Rattle.alg_rings.specs.Laws.{IsPropositional, polynomials}
 use Rattle.alg_rings.proofs.Lists
 use Rattle.alg_rings.proofs.Trims
 use Rattle.alg_rings.proofs.PolynomialLaws
 use Rattle.alg_rings.proofs.Homomorphisms
 use Rattle.alg_rings.proofs.Validity.{sum_valid, product_valid, trim_valid, negatives_valid, multiples_from_valid}
-use Rattle.alg_rings.proofs.Elements.{Element, underlying, element_ops, underlying_homomorphism, on_valid, on_valid₂, on_valid₃, underlying_lists_injective, element_laws, underlying_injective}
+use Rattle.alg_rings.proofs.Elements.{on_elements, Element, underlying, on_valid, on_valid₂, on_valid₃, underlying_lists_injective, underlying_injective}
 
 module _ {A : Type 0} {c : Carrier A} (P : IsPropositional c) (R : IsRing c) where
-  abbrev H : Homomorphisms.Homomorphism (element_ops R) c.ops (underlying c)
-  H = underlying_homomorphism R
-
-  abbrev E : Ops (Element c)
-  E = element_ops R
-
-  abbrev L : RingLaws (element_ops R)
-  L = element_laws P R
+  open on_elements P R use {ops as E, laws as L, value as H}
 
   pub trim_polynomial : (f : List A) → All c.Valid f → IsPolynomial c (trim c.ops f)
   trim_polynomial f vf = (

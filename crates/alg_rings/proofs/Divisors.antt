@@ -77,6 +77,16 @@ module _ {A : Type 0} {c : Carrier A} (P : IsPropositional c) (R : IsRing c) whe
   pub divided_is_polynomial : (d f : List A) → IsPolynomial c d → Divides c d f → IsPolynomial c f
   divided_is_polynomial d f vd e = subst (IsPolynomial c) e.2 (poly_product_polynomial P R e.0 d e.1 vd)
 
+-- the polynomials over a carrier as one value, of which a section opens what it speaks of under
+-- short names
+pub record OnPolynomials {A : Type 0} (c : Carrier A) : Type 0 where
+  pub ops : Ops (Polynomial c)
+  pub laws : RingLaws ops
+
+abbrev pub on_polynomials : {A : Type 0} {c : Carrier A} → IsPropositional c → IsRing c
+    → OnPolynomials c
+on_polynomials P R = record { ops = polynomial_ops P R; laws = polynomial_laws P R }
+
 -- ---- over a field
 module _ {A : Type 0} {c : Carrier A} (P : IsPropositional c) (F : IsField c) where
   pub length_poly_product : (f g : List A) → IsPolynomial c f → IsPolynomial c g → f ≢ [] → g ≢ []

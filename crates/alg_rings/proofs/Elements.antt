@@ -87,6 +87,20 @@ module _ {A : Type 0} {c : Carrier A} (P : IsPropositional c) (R : IsRing c) whe
     zero_test = λ x. ((λ e. underlying_injective P _ _ ((R.zero_test x.0 x.1).0 e)), (λ e. (R.zero_test x.0 x.1).1 (ap (underlying c) e)));
   }
 
+-- the elements of a carrier as one value, of which a section opens what it speaks of under short
+-- names
+pub record OnElements {A : Type 0} (c : Carrier A) : Type 0 where
+  pub ops : Ops (Element c)
+  pub laws : RingLaws ops
+  pub value : Homomorphism ops c.ops (underlying c)
+
+abbrev pub on_elements : {A : Type 0} {c : Carrier A} → IsPropositional c → IsRing c → OnElements c
+on_elements P R = record {
+  ops = element_ops R;
+  laws = element_laws P R;
+  value = underlying_homomorphism R;
+}
+
 module _ {A : Type 0} {c : Carrier A} (P : IsPropositional c) (F : IsField c) where
   pub element_field : FieldLaws (element_ops F.ring)
   element_field = record {

@@ -1,3 +1,4 @@
+pub mod Decisions
 pub mod Rings
 pub mod Lists
 pub mod Trims
@@ -8,6 +9,7 @@ pub mod Residues
 pub mod Primes
 pub mod ResidueFields
 pub mod Homomorphisms
+pub mod Folds
 pub mod Elements
 pub mod Validity
 pub mod CarrierPolynomials

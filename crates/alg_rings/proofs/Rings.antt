@@ -124,6 +124,13 @@ module _ {A : Type 0} {o : Ops A} (R : RingLaws o) where
   pub same_from_difference : (x y : A) → x ⊕ neg y ≡ O → x ≡ y
   same_from_difference x y e = sum_to_difference x (neg y) O e ∙ R.zero_add (neg (neg y)) ∙ neg_neg y
 
+  -- two elements are equal or not
+  pub equal_or_not : (x y : A) → (x ≡ y) ⊎ (x ≢ y)
+  equal_or_not x y = ⊎_elim
+      (λ e. inl (same_from_difference x y e))
+      (λ n. inr (λ e. n (ap (λ t. t ⊕ neg y) e ∙ R.add_neg y)))
+      (zero_or_not o R.zero_test (x ⊕ neg y))
+
   pub add_difference : (x y : A) → x ⊕ (y ⊕ neg x) ≡ y
   add_difference x y = add_left_comm x y (neg x) ∙ ap (λ w. y ⊕ w) (R.add_neg x) ∙ add_zero y
 

@@ -1,5 +1,6 @@
--- The laws of a commutative ring and of a field on a type whose every member is an element, so that no lemma has a
--- premise on validity. The theory stands over these; a carrier's elements form such a type.
+-- The laws of a commutative ring and of a field on a type whose every member is an element, so that
+-- no lemma has a premise on validity. The theory stands over these; a carrier's elements form such
+-- a type.
 --     RingLaws o, FieldLaws o     the operations keep the laws on all of A
 --     IsPropositional c           two elements are equal in one way, and valid in one way
 --     polynomials c               the polynomials over c, with their sums and products

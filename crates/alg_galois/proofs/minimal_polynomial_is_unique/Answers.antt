@@ -1,14 +1,14 @@
-use Rattle.alg_galois.proofs.FieldMinimals.{minimal_over_exists, minimal_over_unique, minimal_over_irreducible, minimal_over_divides}
+use Rattle.alg_galois.proofs.FieldMinimals.{subfield_minimals}
 use Rattle.alg_galois.proofs.minimal_polynomial_is_unique.Goals as goal
 
 pub returns-clause-exists : goal.returns-clause-exists
-returns-clause-exists c = minimal_over_exists
+returns-clause-exists c = λ E F V W m D a va. (subfield_minimals E F V W m D a va).exists
 
 pub returns-clause-unique : goal.returns-clause-unique
-returns-clause-unique c = minimal_over_unique
+returns-clause-unique c = λ E F V W m D a va. (subfield_minimals E F V W m D a va).unique
 
 pub returns-clause-irreducible : goal.returns-clause-irreducible
-returns-clause-irreducible c = minimal_over_irreducible
+returns-clause-irreducible c = λ E F V W m D a va. (subfield_minimals E F V W m D a va).irreducible
 
 pub returns-clause-divides : goal.returns-clause-divides
-returns-clause-divides c = minimal_over_divides
+returns-clause-divides c = λ E F V W m D a va. (subfield_minimals E F V W m D a va).divides

@@ -1,5 +1,6 @@
--- What can be told: whether one number divides another, and the least number below a bound with a
--- given property.
+-- What can be told: the least number below a bound with a property that can be told, whether one
+-- number divides another, whether lists are equal.
+--     Least P n     the least number below n with the property P
 use Rattle.std.proofs.Common.{◌≡◌, refl, ◌⊎◌, ℕ, zero, suc, ◌%◌, ◌<◌, subst, inl, inr, ⊎_elim, arith, List, [], ◌∷◌, ap₂}
 use Rattle.std.proofs.lemmas.Bool.{cases_eq}
 use Rattle.std.proofs.lemmas.Nat.Gcd.{dvd_of_mod-eq-zero, mod-eq-zero_of_dvd}
@@ -15,6 +16,10 @@ divides_or_not d n = ⊎_elim
 -- what can be told of two things can be told of both at once
 pub both_or_not : {P Q : Type 0} → P ⊎ ¬ P → Q ⊎ ¬ Q → (P × Q) ⊎ ¬ (P × Q)
 both_or_not a b = ⊎_elim (λ p. ⊎_elim (λ q. inl (p, q)) (λ n. inr (λ h. n h.1)) b) (λ n. inr (λ h. n h.0)) a
+
+-- and so can that a thing fails
+pub fails_or_not : {P : Type 0} → P ⊎ ¬ P → ¬ P ⊎ ¬ ¬ P
+fails_or_not told = ⊎_elim (λ p. inr (λ fails. fails p)) (λ fails. inl fails) told
 
 -- the least number below n with a property
 pub record Least (P : ℕ → Type 0) (n : ℕ) : Type 0 where
@@ -41,7 +46,7 @@ pub all_or_not : (P : ℕ → Type 0) (n : ℕ) → ((i : ℕ) → i < n → P i
 all_or_not P n told = ⊎_elim
     (λ (l : Least (λ i. ¬ P i) n). inr (λ all. l.holds (all l.number l.below)))
     (λ none. inl (λ i h. ⊎_elim (λ p. p) (λ fails. absurd (none i h fails)) (told i h)))
-    (search_below (λ i. ¬ P i) n (λ i h. ⊎_elim (λ p. inr (λ fails. fails p)) (λ fails. inl fails) (told i h)))
+    (search_below (λ i. ¬ P i) n (λ i h. fails_or_not (told i h)))
 
 -- lists are equal or not where their elements are
 pub lists_equal_or_not : {A : Type 0} → ((x y : A) → (x ≡ y) ⊎ ¬ (x ≡ y)) → (xs ys : List A)
