@@ -19,7 +19,7 @@ mod sums;
 mod tests;
 
 pub use divisors::Bezout;
-pub use polynomials::Poly;
+pub use polynomials::{Poly, compare_places};
 pub use primes::{CHARACTERISTICS, Prime, characteristics_in_order};
 
 /// The greatest degree of a field.
