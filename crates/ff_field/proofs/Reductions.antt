@@ -1,19 +1,19 @@
 -- From polynomials over a field to the values modulo a monic f: what is padded with zeros, negatives, squares and inverses.
-use Rattle.std.proofs.Common.{◌≡◌, ◌≢◌, ℕ, zero, suc, ◌+◌, ◌-◌, ◌*◌, ◌^◌, ◌<◌, ◌≤◌, List, [], ◌∷◌, ◌++◌, length, replicate, All, refl, ap, ap₂, sym, ◌∙◌, subst, arith, ⊎_elim, eq-or-lt_of_le, pow-suc}
+use Rattle.std.proofs.Common.{◌≡◌, ◌≢◌, ℕ, zero, suc, ◌+◌, ◌-◌, ◌*◌, ◌^◌, ◌<◌, ◌≤◌, List, [], ◌∷◌, ◌++◌, length, replicate, All, ap, ap₂, sym, ◌∙◌, subst, arith, ⊎_elim, eq-or-lt_of_le, pow-suc}
 use Rattle.std.proofs.lemmas.List.{length-replicate, length-append}
 use Rattle.std.proofs.lemmas.List.Elements.{All-append, All-replicate, All-nil, All-cons, All-head, All-tail}
 use Rattle.std.proofs.lemmas.List.FromFn.{map-range_with_len_more}
 use Rattle.alg_model.specs.Coefficients.{Ops, Carrier, power}
-use Rattle.alg_model.specs.Polynomials.{trim, poly_sum, poly_negative, poly_difference, poly_product, leading}
-use Rattle.alg_model.specs.Factors.{IsPolynomial, IsMonic, IsDivision, Divides, IsGreatestCommonDivisor, IsIrreducible}
+use Rattle.alg_model.specs.Polynomials.{trim, poly_sum, poly_difference, poly_product, leading}
+use Rattle.alg_model.specs.Factors.{IsPolynomial, IsMonic, IsDivision, IsGreatestCommonDivisor, IsIrreducible}
 use Rattle.alg_model.specs.Values.{degree, padded, remainder, value_ops, values}
 use Rattle.alg_model.specs.Fields.{IsRing, IsField}
 use Rattle.alg_model.specs.Conjugates.{conjugates, sum_all, product_all}
-use Rattle.alg_rings.specs.Laws.{IsPropositional, RingLaws}
+use Rattle.alg_rings.specs.Laws.{IsPropositional}
 use Rattle.alg_rings.proofs.Lists.{product_nil, length_not_nil}
 use Rattle.alg_rings.proofs.Trims
 use Rattle.alg_rings.proofs.Powers
-use Rattle.alg_rings.proofs.Elements.{Element, element_ops, element_laws, underlying_homomorphism}
+use Rattle.alg_rings.proofs.Elements.{element_ops, element_laws, underlying_homomorphism}
 use Rattle.alg_rings.proofs.Homomorphisms.{power-map}
 use Rattle.alg_rings.proofs.CarrierPolynomials.{trim_polynomial}
 use Rattle.alg_rings.proofs.Divisors.{Polynomial, polynomial_ops, same_polynomial, length_divisor}

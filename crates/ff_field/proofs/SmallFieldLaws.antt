@@ -1,10 +1,10 @@
 -- The lemmas on reductions at the fields that contracts speak of.
-use Rattle.std.proofs.Common.{◌≡◌, ◌≢◌, ℕ, zero, suc, ◌+◌, ◌-◌, ◌/◌, ◌%◌, ◌^◌, ◌<◌, ◌≤◌, List, [], ◌∷◌, ◌++◌, length, replicate, slice_index, All, refl, ap, ap₂, sym, ◌∙◌, subst, arith}
+use Rattle.std.proofs.Common.{◌≡◌, ◌≢◌, ℕ, suc, ◌+◌, ◌-◌, ◌/◌, ◌%◌, ◌^◌, ◌<◌, ◌≤◌, List, ◌++◌, length, replicate, slice_index, All, ap, sym, ◌∙◌, arith}
 use Rattle.std.proofs.Math.Nat.{pow-zero}
-use Rattle.alg_model.specs.Coefficients.{Ops, mod_ops, residues, power}
+use Rattle.alg_model.specs.Coefficients.{mod_ops, residues, power}
 use Rattle.alg_model.specs.Polynomials.{trim, poly_sum, poly_difference, poly_product}
 use Rattle.alg_model.specs.Factors.{IsPolynomial, IsDivision, IsGreatestCommonDivisor}
-use Rattle.alg_model.specs.Values.{degree, padded, remainder, values}
+use Rattle.alg_model.specs.Values.{remainder}
 use Rattle.alg_model.specs.Fields.{IsField}
 use Rattle.alg_model.specs.Maps.{Field, IsFiniteField, field_values, degree_of, constant}
 use Rattle.alg_model.specs.Conjugates.{conjugates, sum_all, product_all}
