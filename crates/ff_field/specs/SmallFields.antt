@@ -1,5 +1,6 @@
 -- What a contract sees of a `Field` and of the making of a `Value`.
---     IsSmallField K            a finite field of one of the characteristics, of degree at most MAX_DEGREE
+--     IsSmallField K            a finite field, of a characteristic of the table and of degree at
+--                               most MAX_DEGREE
 --     IsFirstTooLarge p c k     the number at place k is the first of c that isn't below p
 --     IsValueFault K c fault    why c are no digits of a value of K
 use Rattle.std.specs.Prelude.{◌≡◌, ℕ, ◌<◌, ◌≤◌, List, length, slice_index}

@@ -58,7 +58,8 @@ impl Field {
     pub fn sub(&self, a: &Value, b: &Value) -> Value
         requires first { (field_values self.now).Valid a.now }
         requires second { (field_values self.now).Valid b.now }
-        ensures value { result ≡ (field_values self.now).ops.add a.now ((field_values self.now).ops.neg b.now) }
+        ensures value { result
+            ≡ (field_values self.now).ops.add a.now ((field_values self.now).ops.neg b.now) }
         ensures valid { (field_values self.now).Valid result }
     {
         self.add(a, &self.neg(b))
@@ -87,7 +88,8 @@ impl Field {
     pub(crate) fn poly_of(&self, a: &Value) -> Poly
         requires { (field_values self.now).Valid a.now }
         ensures prime { result.prime ≡ self.now.characteristic }
-        ensures coefficients { result.coefficients ≡ trim (mod_ops self.now.characteristic) a.now }
+        ensures coefficients { result.coefficients
+            ≡ trim (mod_ops self.now.characteristic) a.now }
         ensures short { length result.coefficients ≤ length a.now }
         ensures whole { IsSmallField self.now }
     {
@@ -97,7 +99,8 @@ impl Field {
     // The value of a polynomial: its remainder by that of the field.
     pub(crate) fn reduced(&self, g: &Poly) -> Value
         requires { g.now.prime ≡ self.now.characteristic }
-        ensures value { result ≡ remainder (mod_ops self.now.characteristic) self.now.polynomial g.now.coefficients }
+        ensures value { result ≡ remainder (mod_ops self.now.characteristic) self.now.polynomial
+            g.now.coefficients }
         ensures valid { (field_values self.now).Valid result }
     {
         let (_, rest) = g.divrem(self.poly());

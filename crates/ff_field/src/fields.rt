@@ -8,8 +8,8 @@ ghost use Rattle.ff_field.specs.SmallFields.{IsSmallField};
 use ff_poly::{MAX_DEGREE, Poly, Prime};
 use std::marker::Model;
 
-/// A finite field: the residues of polynomials over a prime field modulo a monic irreducible polynomial of degree 1 to
-/// `MAX_DEGREE` (Lidl and Niederreiter, Finite Fields, chapter 2).
+/// A finite field: the residues of polynomials over a prime field modulo a monic irreducible
+/// polynomial of degree 1 to `MAX_DEGREE` (Lidl and Niederreiter, Finite Fields, chapter 2).
 #[derive(Drop)]
 pub struct Field {
     polynomial: Poly,
@@ -33,7 +33,8 @@ impl Model for Field {
 }
 
 impl Field {
-    /// The field of the residues modulo `f`, which is monic, irreducible and of degree 1 to `MAX_DEGREE`.
+    /// The field of the residues modulo `f`, which is monic, irreducible and of degree 1 to
+    /// `MAX_DEGREE`.
     pub fn new(f: Poly) -> Field
         requires monic { IsMonic (residues f.prime) f.coefficients }
         requires irreducible { IsIrreducible (residues f.prime) f.coefficients }

@@ -1,8 +1,8 @@
-//! Exact arithmetic in finite fields of a small characteristic and of degree at most `MAX_DEGREE`, in a fixed room and without
-//! allocation.
+//! Exact arithmetic in finite fields of a small characteristic and of degree at most `MAX_DEGREE`,
+//! in a fixed room and without allocation.
 //!
-//! A value is the list of its digits: the residues that are its coefficients on 1, x, x^2, .., as many as the degree, lowest
-//! first.
+//! A value is the list of its digits: the residues that are its coefficients on 1, x, x^2, .., as
+//! many as the degree, lowest first.
 #![tactic(auto)]
 
 mod arithmetic;

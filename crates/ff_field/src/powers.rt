@@ -8,7 +8,8 @@ use crate::{Field, Value};
 impl Field {
     /// The power `a^e`; it is one for `e = 0`.
     ///
-    /// By squaring, from the highest binary digit of `e` down (Knuth, The Art of Computer Programming 2, section 4.6.3).
+    /// By squaring, from the highest binary digit of `e` down (Knuth, The Art of Computer
+    /// Programming 2, section 4.6.3).
     pub fn pow(&self, a: &Value, e: u64) -> Value
         requires { (field_values self.now).Valid a.now }
         ensures value { result ≡ power (field_values self.now).ops a.now e }

@@ -1,5 +1,6 @@
 //! Values of a field.
-ghost use Rattle.std.specs.Prelude.{◌≡◌, ◌↔◌, ◌-◌, ◌<◌, ◌≤◌, ◌++◌, length, replicate, All, IsOk, IfOk, IfErr, IsTrue, IfSome};
+ghost use Rattle.std.specs.Prelude.{◌≡◌, ◌↔◌, ◌-◌, ◌<◌, ◌≤◌, ◌++◌, length, replicate, All};
+ghost use Rattle.std.specs.Prelude.{IsTrue, IsOk, IfOk, IfErr, IfSome};
 ghost use Rattle.std.specs.Ordering.{nat_cmp};
 ghost use Rattle.alg_model.specs.Coefficients.{mod_ops};
 ghost use Rattle.alg_model.specs.Factors.{order_by};
@@ -39,14 +40,16 @@ pub enum ValueFault {
 }
 
 impl Value {
-    /// The value of the field with the digits `c`, lowest first; zeros are added at the end up to the degree.
+    /// The value of the field with the digits `c`, lowest first; zeros are added at the end up to
+    /// the degree.
     ///
-    /// `TooMany` where `c` has more numbers than the degree, and else `TooLarge` where a number isn't below the
-    /// characteristic.
+    /// `TooMany` where `c` has more numbers than the degree, and else `TooLarge` where a number
+    /// isn't below the characteristic.
     pub fn of_slice(field: &Field, c: &[u8]) -> Result<Value, ValueFault>
         ensures ok { IsOk result ↔ ((length c.now ≤ degree_of field.now)
             × All (λ x. x < field.now.characteristic) c.now) }
-        ensures made { IfOk result (λ v. v ≡ padded (mod_ops field.now.characteristic) (degree_of field.now) c.now) }
+        ensures made { IfOk result (λ v. v
+            ≡ padded (mod_ops field.now.characteristic) (degree_of field.now) c.now) }
         ensures valid { IfOk result (λ v. (field_values field.now).Valid v) }
         ensures fault { IfErr result (λ e. IsValueFault field.now c.now e) }
     {
