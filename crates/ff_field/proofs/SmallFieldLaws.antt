@@ -1,7 +1,7 @@
 -- The lemmas on reductions at the fields that contracts speak of.
 use Rattle.std.proofs.Common.{◌≡◌, ◌≢◌, ℕ, suc, ◌+◌, ◌-◌, ◌/◌, ◌%◌, ◌^◌, ◌<◌, ◌≤◌, List, ◌++◌, length, replicate, slice_index, All, ap, sym, ◌∙◌, arith}
 use Rattle.std.proofs.Math.Nat.{pow-zero}
-use Rattle.alg_model.specs.Coefficients.{mod_ops, residues, power}
+use Rattle.alg_model.specs.Coefficients.{Ops, mod_ops, residues, power}
 use Rattle.alg_model.specs.Polynomials.{trim, poly_sum, poly_difference, poly_product}
 use Rattle.alg_model.specs.Factors.{IsPolynomial, IsDivision, IsGreatestCommonDivisor}
 use Rattle.alg_model.specs.Values.{remainder}
@@ -29,9 +29,16 @@ module _ (K : Field) (W : IsFiniteField K) where
   abbrev f : Polynomial (residues K.characteristic)
   f = (K.polynomial, W.irreducible.polynomial)
 
+  abbrev o : Ops ℕ
+  o = mod_ops K.characteristic
+
+  abbrev T : Ops (List ℕ)
+  T = (field_values K).ops
+
   -- the values are a field
   pub values_field : IsField (field_values K)
-  values_field = field_at_values K.characteristic W.characteristic K.polynomial W.monic W.irreducible
+  values_field =
+      field_at_values K.characteristic W.characteristic K.polynomial W.monic W.irreducible
 
   -- residues with zeros after them
   pub padded_valid : (xs : List ℕ) → All (λ x. x < K.characteristic) xs → length xs ≤ degree_of K
@@ -41,95 +48,87 @@ module _ (K : Field) (W : IsFiniteField K) where
   -- what a division by the field's polynomial leaves
   pub padded_rest : (g q r : List ℕ) → IsPolynomial (residues K.characteristic) g
       → IsDivision (residues K.characteristic) g K.polynomial q r
-      → r ++ replicate (degree_of K - length r) 0 ≡ remainder (mod_ops K.characteristic) K.polynomial g
+      → r ++ replicate (degree_of K - length r) 0 ≡ remainder o K.polynomial g
   padded_rest = Reductions.padded_rest P F f W.irreducible.not_constant W.monic
 
   -- remainders are values
   pub remainder_valid : (g : List ℕ) → IsPolynomial (residues K.characteristic) g
-      → (field_values K).Valid (remainder (mod_ops K.characteristic) K.polynomial g)
+      → (field_values K).Valid (remainder o K.polynomial g)
   remainder_valid g v = remainder_value P F f W.irreducible.not_constant W.monic (g, v)
 
   -- sums
   pub sum_of_values : (a b : List ℕ) → (field_values K).Valid a → (field_values K).Valid b
-      → remainder (mod_ops K.characteristic) K.polynomial
-      (poly_sum (mod_ops K.characteristic) (trim (mod_ops K.characteristic) a) (trim (mod_ops K.characteristic) b))
-      ≡ (field_values K).ops.add a b
+      → remainder o K.polynomial (poly_sum o (trim o a) (trim o b)) ≡ T.add a b
   sum_of_values = Reductions.sum_of_values P F f W.irreducible.not_constant W.monic
 
   -- products
   pub product_of_values : (a b : List ℕ) → (field_values K).Valid a → (field_values K).Valid b
-      → remainder (mod_ops K.characteristic) K.polynomial
-      (poly_product (mod_ops K.characteristic) (trim (mod_ops K.characteristic) a) (trim (mod_ops K.characteristic) b))
-      ≡ (field_values K).ops.mul a b
+      → remainder o K.polynomial (poly_product o (trim o a) (trim o b)) ≡ T.mul a b
   product_of_values = Reductions.product_of_values P F f W.irreducible.not_constant W.monic
 
   -- negatives
   pub negative_of_value : (a : List ℕ) → (field_values K).Valid a
-      → remainder (mod_ops K.characteristic) K.polynomial
-      (poly_difference (mod_ops K.characteristic) (trim (mod_ops K.characteristic) (field_values K).ops.zero)
-      (trim (mod_ops K.characteristic) a))
-      ≡ (field_values K).ops.neg a
+      → remainder o K.polynomial (poly_difference o (trim o T.zero) (trim o a)) ≡ T.neg a
   negative_of_value = Reductions.negative_of_value P F f W.irreducible.not_constant W.monic
 
   -- **inverses**
-  pub inverse_from_bezout : (a : List ℕ) → (field_values K).Valid a → a ≢ (field_values K).ops.zero → (g u w : List ℕ)
+  pub inverse_from_bezout : (a : List ℕ) → (field_values K).Valid a → a ≢ T.zero
+      → (g u w : List ℕ)
       → IsPolynomial (residues K.characteristic) u → IsPolynomial (residues K.characteristic) w
-      → IsGreatestCommonDivisor (residues K.characteristic) (trim (mod_ops K.characteristic) a) K.polynomial g
-      → poly_sum (mod_ops K.characteristic)
-      (poly_product (mod_ops K.characteristic) u (trim (mod_ops K.characteristic) a))
-      (poly_product (mod_ops K.characteristic) w K.polynomial) ≡ g
-      → (field_values K).ops.mul a (remainder (mod_ops K.characteristic) K.polynomial u) ≡ (field_values K).ops.one
-  inverse_from_bezout = Reductions.inverse_from_bezout P F f W.irreducible.not_constant W.monic W.irreducible
+      → IsGreatestCommonDivisor (residues K.characteristic) (trim o a) K.polynomial g
+      → poly_sum o (poly_product o u (trim o a)) (poly_product o w K.polynomial) ≡ g
+      → T.mul a (remainder o K.polynomial u) ≡ T.one
+  inverse_from_bezout =
+      Reductions.inverse_from_bezout P F f W.irreducible.not_constant W.monic W.irreducible
 
-  -- **a power by its half**
-  pub power_of_odd : (a : List ℕ) → (field_values K).Valid a → (e : ℕ) → e % 2 ≡ 1
-      → power (field_values K).ops a e
-      ≡ (field_values K).ops.mul
-      ((field_values K).ops.mul (power (field_values K).ops a (e / 2)) (power (field_values K).ops a (e / 2))) a
-  power_of_odd a v e odd =
-      let halves : e ≡ suc (e / 2 + e / 2) = omega arith in
-      ap (power (field_values K).ops a) halves
-      ∙ ap (λ b. (field_values K).ops.mul b a)
-      (Reductions.power_sum (values_propositional P K.polynomial) values_field.ring a v (e / 2) (e / 2))
-
-  -- and of an even exponent
-  pub power_of_even : (a : List ℕ) → (field_values K).Valid a → (e : ℕ) → e % 2 ≢ 1
-      → power (field_values K).ops a e
-      ≡ (field_values K).ops.mul (power (field_values K).ops a (e / 2)) (power (field_values K).ops a (e / 2))
-  power_of_even a v e even =
-      let halves : e ≡ e / 2 + e / 2 = omega arith in
-      ap (power (field_values K).ops a) halves
-      ∙ Reductions.power_sum (values_propositional P K.polynomial) values_field.ring a v (e / 2) (e / 2)
-
-  -- ---- conjugates
   abbrev V : IsPropositional (field_values K)
   V = values_propositional P K.polynomial
 
+  abbrev half : List ℕ → ℕ → List ℕ
+  half a e = power T a (e / 2)
+
+  -- **a power by its half**
+  pub power_of_odd : (a : List ℕ) → (field_values K).Valid a → (e : ℕ) → e % 2 ≡ 1
+      → power T a e ≡ T.mul (T.mul (half a e) (half a e)) a
+  power_of_odd a v e odd =
+      let halves : e ≡ suc (e / 2 + e / 2) = omega arith in
+      ap (power T a) halves
+      ∙ ap (λ b. T.mul b a) (Reductions.power_sum V values_field.ring a v (e / 2) (e / 2))
+
+  -- and of an even exponent
+  pub power_of_even : (a : List ℕ) → (field_values K).Valid a → (e : ℕ) → e % 2 ≢ 1
+      → power T a e ≡ T.mul (half a e) (half a e)
+  power_of_even a v e even =
+      let halves : e ≡ e / 2 + e / 2 = omega arith in
+      ap (power T a) halves ∙ Reductions.power_sum V values_field.ring a v (e / 2) (e / 2)
+
+  -- ---- conjugates
   -- the sum with one more
   pub sum_of_more : (n : ℕ) (a : List ℕ) → (field_values K).Valid a
-      → sum_all (field_values K).ops (conjugates (field_values K).ops K.characteristic (n + 1) a)
-      ≡ (field_values K).ops.add (sum_all (field_values K).ops (conjugates (field_values K).ops K.characteristic n a))
-      (power (field_values K).ops a (K.characteristic ^ n))
+      → sum_all T (conjugates T K.characteristic (n + 1) a)
+      ≡ T.add (sum_all T (conjugates T K.characteristic n a)) (power T a (K.characteristic ^ n))
   sum_of_more n a v = Reductions.sum_of_more V values_field.ring K.characteristic n a v
 
   -- the product with one more
   pub product_of_more : (n : ℕ) (a : List ℕ) → (field_values K).Valid a
-      → product_all (field_values K).ops (conjugates (field_values K).ops K.characteristic (n + 1) a)
-      ≡ (field_values K).ops.mul (product_all (field_values K).ops (conjugates (field_values K).ops K.characteristic n a))
-      (power (field_values K).ops a (K.characteristic ^ n))
+      → product_all T (conjugates T K.characteristic (n + 1) a)
+      ≡ T.mul (product_all T (conjugates T K.characteristic n a)) (power T a (K.characteristic ^ n))
   product_of_more n a v = Reductions.product_of_more V values_field.ring K.characteristic n a v
 
   -- the first one
-  pub first_conjugate : (a : List ℕ) → (field_values K).Valid a → power (field_values K).ops a (K.characteristic ^ 0) ≡ a
-  first_conjugate a v = ap (power (field_values K).ops a) (pow-zero K.characteristic) ∙ values_field.ring.one_mul a v
+  pub first_conjugate : (a : List ℕ) → (field_values K).Valid a
+      → power T a (K.characteristic ^ 0) ≡ a
+  first_conjugate a v =
+      ap (power T a) (pow-zero K.characteristic) ∙ values_field.ring.one_mul a v
 
   -- the next one
   pub next_conjugate : (n : ℕ) (a : List ℕ) → (field_values K).Valid a
-      → power (field_values K).ops (power (field_values K).ops a (K.characteristic ^ n)) K.characteristic
-      ≡ power (field_values K).ops a (K.characteristic ^ (n + 1))
+      → power T (power T a (K.characteristic ^ n)) K.characteristic
+      ≡ power T a (K.characteristic ^ (n + 1))
   next_conjugate n a v = Reductions.next_conjugate V values_field.ring K.characteristic n a v
 
   -- **a constant is its lowest digit**
   pub lowest_digit : (s : List ℕ) → (t : ℕ) × (t < K.characteristic) × (constant K t ≡ s)
       → constant K (slice_index s 0) ≡ s
-  lowest_digit s (t, l, e) = let d : t ≡ slice_index s 0 = ap (λ xs. slice_index xs 0) e in ap (constant K) (sym d) ∙ e
+  lowest_digit s (t, l, e) =
+      let d : t ≡ slice_index s 0 = ap (λ xs. slice_index xs 0) e in ap (constant K) (sym d) ∙ e

@@ -6,8 +6,8 @@ ghost use Rattle.alg_model.specs.Conjugates.{trace, norm};
 use crate::{Field, Value};
 
 impl Field {
-    /// The trace of `a`: the sum of its conjugates `a, a^p, a^(p^2), ..`, as many as the degree. It is
-    /// a constant, given as a residue.
+    /// The trace of `a`: the sum of its conjugates `a, a^p, a^(p^2), ..`, as many as the degree. It
+    /// is a constant, given as a residue.
     pub fn trace(&self, a: &Value) -> u8
         requires { (field_values self.now).Valid a.now }
         ensures value { constant self.now result ≡ trace self.now a.now }

@@ -10,5 +10,6 @@ returns-clause-value c =
     let K = c.args.self.now in
     let W = c.degree-degree.ensures.whole.finite in
     let a = c.args.a.now in
-    ap (λ xs. constant K (slice_index xs 0)) (c.digits.ensures.value ∙ c.product_of_conjugates-product.ensures.value)
+    ap (λ xs. constant K (slice_index xs 0))
+    (c.digits.ensures.value ∙ c.product_of_conjugates-product.ensures.value)
     ∙ lowest_digit K W (norm K a) (norm_in_prime_field K W a c.requires)

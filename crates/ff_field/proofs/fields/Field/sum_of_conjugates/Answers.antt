@@ -8,11 +8,12 @@ use Rattle.ff_field.proofs.fields.Field.sum_of_conjugates.Goals as goal
 pub conjugates-init : goal.conjugates-init
 conjugates-init c =
     let K = c.args.self.now in
+    let W = c.prime-prime.ensures.whole.finite in
     record {
       sum_valid = c.zero-sum.ensures.valid;
       conjugate_valid = subst (field_values K).Valid (sym c.copy-conjugate.ensures) c.requires;
       sum = c.zero-sum.ensures.value;
-      conjugate = c.copy-conjugate.ensures ∙ sym (first_conjugate K c.prime-prime.ensures.whole.finite c.args.a.now c.requires);
+      conjugate = c.copy-conjugate.ensures ∙ sym (first_conjugate K W c.args.a.now c.requires);
     }
 
 pub conjugates-preserved : goal.conjugates-preserved
@@ -26,7 +27,8 @@ conjugates-preserved c =
     record {
       sum_valid = c.add-sum.ensures.valid;
       conjugate_valid = c.frob-conjugate.ensures.valid;
-      sum = c.add-sum.ensures.value ∙ ap₂ o.add h.sum h.conjugate ∙ sym (sum_of_more K W k a c.requires);
+      sum = c.add-sum.ensures.value
+          ∙ ap₂ o.add h.sum h.conjugate ∙ sym (sum_of_more K W k a c.requires);
       conjugate = c.frob-conjugate.ensures.value ∙ ap (λ b. power o b K.characteristic) h.conjugate
           ∙ next_conjugate K W k a c.requires;
     }
@@ -36,4 +38,5 @@ returns-clause-value c =
     let K = c.args.self.now in
     let o = (field_values K).ops in
     let all : c.conjugates._k ≡ degree_of K = omega arith in
-    c.conjugates.invariant.sum ∙ ap (λ n. sum_all o (conjugates o K.characteristic n c.args.a.now)) all
+    c.conjugates.invariant.sum
+    ∙ ap (λ n. sum_all o (conjugates o K.characteristic n c.args.a.now)) all

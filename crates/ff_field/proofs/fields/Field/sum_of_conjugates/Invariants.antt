@@ -8,6 +8,7 @@ abbrev pub invariant-conjugates : goal.invariant-conjugates
 invariant-conjugates l = record {
   sum_valid : (field_values l.self).Valid l.sum;
   conjugate_valid : (field_values l.self).Valid l.conjugate;
-  sum : l.sum ≡ sum_all (field_values l.self).ops (conjugates (field_values l.self).ops l.self.characteristic l._k l.a);
+  sum : l.sum ≡ sum_all (field_values l.self).ops
+      (conjugates (field_values l.self).ops l.self.characteristic l._k l.a);
   conjugate : l.conjugate ≡ power (field_values l.self).ops l.a (l.self.characteristic ^ l._k);
 }
