@@ -11,8 +11,6 @@ mod fields;
 mod inverses;
 mod laws;
 mod powers;
-#[cfg(test)]
-mod tests;
 mod values;
 
 pub use fields::Field;
