@@ -19,7 +19,7 @@ mod tests;
 
 pub use divisors::Bezout;
 pub use ff_residues::{CHARACTERISTICS, PRIMES, Prime, characteristics_in_order};
-pub use polynomials::Poly;
+pub use polynomials::{Poly, compare_places};
 
 /// The greatest degree of a field.
 pub const MAX_DEGREE: usize = 48;

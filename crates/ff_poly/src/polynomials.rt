@@ -145,8 +145,8 @@ fn trimmed_len(c: &[u8]) -> usize
     0
 }
 
-// Compares two lists of one length from the highest place down.
-fn compare_places(a: &[u8], b: &[u8]) -> Ordering
+/// Compares two lists of one length from the highest place down, at the first difference.
+pub fn compare_places(a: &[u8], b: &[u8]) -> Ordering
     requires { length a.now ≡ length b.now }
     ensures { result ≡ order_by nat_cmp a.now b.now }
 {

@@ -8,8 +8,8 @@ use ff_factor::{Verdict, check, judge};
 use ff_poly::{MAX_DEGREE, Poly, Prime};
 use std::process::Abort;
 
-// The monic polynomial with these coefficients.
-fn monic(rt: &impl Abort, p: u32, c: &[u8]) -> Poly
+/// The monic polynomial with these coefficients.
+pub(crate) fn monic(rt: &impl Abort, p: u32, c: &[u8]) -> Poly
     ensures monic { IsMonic (residues result.prime) result.coefficients }
     ensures not_constant { 1 < length result.coefficients }
     ensures degree { length result.coefficients ≤ MAX_DEGREE + 1 }

@@ -4,5 +4,7 @@
 #[cfg(test)]
 mod comparisons;
 #[cfg(test)]
+mod field_values;
+#[cfg(test)]
 mod hand_examples;
 pub mod trial_division;

@@ -1,0 +1,2 @@
+pub mod SmallFields
+pub mod Theorems

@@ -1,0 +1,122 @@
+//! Constants of a field, sums and products.
+ghost use Rattle.std.specs.Prelude.{◌≡◌, ◌<◌, ◌≤◌, length, All};
+ghost use Rattle.alg_model.specs.Coefficients.{mod_ops};
+ghost use Rattle.alg_model.specs.Polynomials.{trim};
+ghost use Rattle.alg_model.specs.Values.{remainder};
+ghost use Rattle.alg_model.specs.Maps.{field_values, generator, constant};
+ghost use Rattle.ff_field.specs.SmallFields.{IsSmallField};
+
+use crate::{Field, Value};
+use ff_poly::{MAX_POLY, Poly, Prime};
+
+impl Field {
+    /// Zero.
+    pub fn zero(&self) -> Value
+        ensures value { result ≡ (field_values self.now).ops.zero }
+        ensures valid { (field_values self.now).Valid result }
+    {
+        Value::padded(&[], self.degree() as usize)
+    }
+
+    /// One.
+    pub fn one(&self) -> Value
+        ensures value { result ≡ (field_values self.now).ops.one }
+        ensures valid { (field_values self.now).Valid result }
+    {
+        let _number = self.prime().number();
+        self.of_residue(1)
+    }
+
+    /// The generator: the class of `x`.
+    pub fn generator(&self) -> Value
+        ensures value { result ≡ generator self.now }
+        ensures valid { (field_values self.now).Valid result }
+    {
+        self.reduced(&poly_of(self.prime(), &[0, 1]))
+    }
+
+    /// A residue as a value of the field: the constant.
+    pub fn of_residue(&self, c: u8) -> Value
+        requires { c < self.now.characteristic }
+        ensures value { result ≡ constant self.now c }
+        ensures valid { (field_values self.now).Valid result }
+    {
+        Value::padded(&[c], self.degree() as usize)
+    }
+
+    /// The sum `a + b`.
+    pub fn add(&self, a: &Value, b: &Value) -> Value
+        requires first { (field_values self.now).Valid a.now }
+        requires second { (field_values self.now).Valid b.now }
+        ensures value { result ≡ (field_values self.now).ops.add a.now b.now }
+        ensures valid { (field_values self.now).Valid result }
+    {
+        self.reduced(&self.poly_of(a).add(&self.poly_of(b)))
+    }
+
+    /// The difference `a - b`.
+    pub fn sub(&self, a: &Value, b: &Value) -> Value
+        requires first { (field_values self.now).Valid a.now }
+        requires second { (field_values self.now).Valid b.now }
+        ensures value { result
+            ≡ (field_values self.now).ops.add a.now ((field_values self.now).ops.neg b.now) }
+        ensures valid { (field_values self.now).Valid result }
+    {
+        self.add(a, &self.neg(b))
+    }
+
+    /// The negative `-a`.
+    pub fn neg(&self, a: &Value) -> Value
+        requires { (field_values self.now).Valid a.now }
+        ensures value { result ≡ (field_values self.now).ops.neg a.now }
+        ensures valid { (field_values self.now).Valid result }
+    {
+        self.reduced(&self.poly_of(&self.zero()).sub(&self.poly_of(a)))
+    }
+
+    /// The product `a * b`.
+    pub fn mul(&self, a: &Value, b: &Value) -> Value
+        requires first { (field_values self.now).Valid a.now }
+        requires second { (field_values self.now).Valid b.now }
+        ensures value { result ≡ (field_values self.now).ops.mul a.now b.now }
+        ensures valid { (field_values self.now).Valid result }
+    {
+        self.reduced(&self.poly_of(a).mul(&self.poly_of(b)))
+    }
+
+    // The polynomial with the digits of a value as coefficients.
+    pub(crate) fn poly_of(&self, a: &Value) -> Poly
+        requires { (field_values self.now).Valid a.now }
+        ensures prime { result.prime ≡ self.now.characteristic }
+        ensures coefficients { result.coefficients
+            ≡ trim (mod_ops self.now.characteristic) a.now }
+        ensures short { length result.coefficients ≤ length a.now }
+        ensures whole { IsSmallField self.now }
+    {
+        poly_of(self.prime(), a.digits())
+    }
+
+    // The value of a polynomial: its remainder by that of the field.
+    pub(crate) fn reduced(&self, g: &Poly) -> Value
+        requires { g.now.prime ≡ self.now.characteristic }
+        ensures value { result ≡ remainder (mod_ops self.now.characteristic) self.now.polynomial
+            g.now.coefficients }
+        ensures valid { (field_values self.now).Valid result }
+    {
+        let (_, rest) = g.divrem(self.poly());
+        Value::padded(rest.coefficients(), self.degree() as usize)
+    }
+}
+
+// The polynomial with these coefficients, lowest first; zeros at the end are dropped.
+fn poly_of(p: Prime, c: &[u8]) -> Poly
+    requires room { length c.now ≤ MAX_POLY }
+    requires residues { All (λ x. x < p) c.now }
+    ensures prime { result.prime ≡ p }
+    ensures coefficients { result.coefficients ≡ trim (mod_ops p) c.now }
+{
+    match Poly::of_slice(p, c) {
+        Some(f) => f,
+        None => unreachable!(),
+    }
+}
