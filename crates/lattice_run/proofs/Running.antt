@@ -1,5 +1,5 @@
 -- From the parts of a run to its answer.
-use Rattle.std.proofs.Common.{◌≡◌, ℕ, ◌+◌, ◌≤◌, ◌<◌, List, [], ◌∷◌, length, map, drop, replicate, slice_index_or, refl, ◌∙◌, sym, ap, subst, arith, Option, Some, None, Bool, true, false}
+use Rattle.std.proofs.Common.{◌≡◌, ℕ, ◌+◌, ◌≤◌, ◌<◌, List, [], ◌∷◌, length, map, drop, replicate, slice_index_or, refl, ◌∙◌, sym, ap, subst, arith, Option, Some, None, Bool, true, false, inl, inr}
 use Rattle.std.specs.Prelude.{◌↔◌, IsTrue, bytes_eq}
 use Rattle.std.proofs.Math.ListN.{drop_of_length-le}
 use Rattle.std.proofs.lemmas.List.{length-replicate}
@@ -8,6 +8,7 @@ use Rattle.lat_io.specs.declared.faults.ReadFault.{ReadFault}
 use Rattle.lat_io.specs.declared.faults.ReadFault.TheVariants.{Failed, TooLong, NoMemory as ReadNoMemory}
 use Rattle.lat_io.specs.Source.{ReadWhole, TakesFront, TakesAtMost, TakesSome, TookBefore}
 use Rattle.lat_io.specs.Streams.{Stream}
+use Rattle.lat_script.proofs.ParsedLines.{spelled_not_empty, leading_not_empty}
 use Rattle.lattice_run.specs.declared.run.TheConstants.{MAX_INPUT}
 use Rattle.lat_script.specs.declared.commands.Script.{Script}
 use Rattle.lat_script.specs.Grammar.{Spells, FirstBad}
@@ -16,7 +17,7 @@ use Rattle.lattice_run.specs.declared.status.TheConstants.{DONE, NO_COMMAND, BAD
 use Rattle.lattice_run.specs.Transcript.{IsTranscript}
 use Rattle.lattice_run.specs.Answers.{IsSolo, IsInput, TakesInput}
 use Rattle.lattice_run.specs.Answers.Answers.{usage, too_long, bad_line, played}
-use Rattle.lattice_run.specs.PrivateRuns.{Delivers, AnswersInput, Ran}
+use Rattle.lattice_run.specs.PrivateRuns.{Delivers, NeedsMemory, AnswersInput, Ran}
 use Rattle.lattice_run.specs.PrivateRuns.AnswersInput.{answered, unanswered}
 use Rattle.lattice_run.specs.PrivateRuns.Ran.{delivered, no_memory}
 
@@ -116,6 +117,10 @@ some_taken (Some bytes) left' input some fits h =
     let same : length input ≡ length bytes = ap length h.0 in
     (length bytes, omega arith, omega arith, (omega arith, h.1 ∙ ap Some (sym (nothing_past bytes (length bytes) (omega arith)))))
 
+needs_not_empty : (input : List ℕ) → NeedsMemory input → 0 < length input
+needs_not_empty input (inl leads) = leading_not_empty input leads
+needs_not_empty input (inr (script, spelled)) = spelled_not_empty input script spelled
+
 -- ---- the run
 -- an answer to the input, or want of memory for it, is a way out of the run
 pub ran_input : (words : List (List ℕ)) (source source' sink sink' : Stream) (result : ℕ)
@@ -124,8 +129,8 @@ pub ran_input : (words : List (List ℕ)) (source source' sink sink' : Stream) (
     → AnswersInput input sink sink' result → Ran words source source' sink sink' result
 ran_input words source source' sink sink' result input solo u fits h (answered status text a d) =
     delivered input status text u (whole_input words source.bytes source'.bytes input solo fits h) (a words solo) d
-ran_input words source source' sink sink' result input solo u fits h (unanswered some e k) =
-    no_memory solo (some_taken source.bytes source'.bytes input some fits h) e u k
+ran_input words source source' sink sink' result input solo u fits h (unanswered needs e k) =
+    no_memory solo (some_taken source.bytes source'.bytes input (needs_not_empty input needs) fits h) e u k
 
 -- the line for a first fault answers the input
 pub answered_bad : (input : List ℕ) (sink sink' : Stream) (result line kind : ℕ) (text : List ℕ)

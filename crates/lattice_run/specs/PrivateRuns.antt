@@ -1,10 +1,12 @@
 -- How the parts of the top call leave. No public clause cites this module.
-use Rattle.std.specs.Prelude.{◌≡◌, ℕ, ◌<◌, List, length}
+use Rattle.std.specs.Prelude.{◌≡◌, ◌⊎◌, ℕ, List}
 use Rattle.std.specs.Io.KnownBytes.{Appends}
 use Rattle.lat_io.specs.Faults.{one_more}
 use Rattle.lat_io.specs.Sink.{AppendsPart}
 use Rattle.lat_io.specs.Source.{TakesSome}
 use Rattle.lat_io.specs.Streams.{Stream}
+use Rattle.lat_script.specs.declared.commands.Script.{Script}
+use Rattle.lat_script.specs.Grammar.{Spells, LeadsToCommand}
 use Rattle.lattice_run.specs.declared.run.TheConstants.{MAX_INPUT}
 use Rattle.lattice_run.specs.declared.status.TheConstants.{READ_FAILED, WRITE_FAILED, NO_MEMORY}
 use Rattle.lattice_run.specs.Answers.{IsSolo, Answers, IsInput}
@@ -16,12 +18,16 @@ pub data Delivers (status : ℕ) (text : List ℕ) (sink sink' : Stream) (result
   part : result ≡ WRITE_FAILED → sink'.faults ≡ one_more sink.faults
       → AppendsPart sink.bytes sink'.bytes text → Delivers status text sink sink' result
 
--- An answer was delivered, or there was no memory, which an input without a byte doesn't need.
+-- what needs memory after it was read: a command, and a script to be played
+abbrev pub NeedsMemory : List ℕ → Type 0
+NeedsMemory input = LeadsToCommand input ⊎ ((script : Script) × Spells input script)
+
+-- An answer was delivered, or there was no memory for an input that needs it.
 pub data AnswersInput (input : List ℕ) (sink sink' : Stream) (result : ℕ) : Type 0 where
   answered : (status : ℕ) (text : List ℕ)
       → ((words : List (List ℕ)) → IsSolo words → Answers words input status text)
       → Delivers status text sink sink' result → AnswersInput input sink sink' result
-  unanswered : 0 < length input → result ≡ NO_MEMORY → sink' ≡ sink
+  unanswered : NeedsMemory input → result ≡ NO_MEMORY → sink' ≡ sink
       → AnswersInput input sink sink' result
 
 -- An answer was delivered, a read failed, or there was no memory for the word `solo` and some bytes.

@@ -37,8 +37,7 @@ fn deliver<K: Sink>(sink: &mut K, status: u8, text: &[u8]) -> u8
     }
 }
 
-// Writes the answer to an input that was read whole, and gives the status. An input without a byte
-// needs no memory.
+// Writes the answer to an input that was read whole, and gives the status.
 fn answer<K: Sink>(alloc: Global, input: &[u8], sink: &mut K) -> u8
     requires { length input.now ≤ MAX_INPUT }
     ensures { AnswersInput input.now

@@ -1,8 +1,7 @@
 -- The transcript of the script, the line for its fault, or want of memory.
-use Rattle.std.proofs.Common.{◌∙◌, sym, ap, ap₂, subst, refl}
+use Rattle.std.proofs.Common.{◌∙◌, sym, ap, ap₂, subst, refl, inl, inr}
 use Rattle.std.specs.Prelude.{Err}
 use Rattle.lat_script.proofs.LinesOfScripts.{spelled_is_text}
-use Rattle.lat_script.proofs.ParsedLines.{spelled_not_empty, leading_not_empty}
 use Rattle.lat_script.specs.Texts.{bad_line_text}
 use Rattle.lattice_run.specs.Transcript.{IsTranscript}
 use Rattle.lattice_run.specs.PrivateRuns.AnswersInput.{unanswered}
@@ -18,7 +17,7 @@ returns-in-Ok-play g c =
     (subst (IsTranscript c.in-Ok.script.prologue) (sym c.deref.ensures.value) c.in-Ok-play.ensures) c.deliver.ensures
 
 pub returns-in-Ok : goal.returns-in-Ok
-returns-in-Ok g c = unanswered (spelled_not_empty c.args.input.now c.in-Ok.script c.in-Ok.ensures.script) refl refl
+returns-in-Ok g c = unanswered (inr (c.in-Ok.script, c.in-Ok.ensures.script)) refl refl
 
 pub returns-in-Err-Line : goal.returns-in-Err-Line
 returns-in-Err-Line g c =
@@ -28,4 +27,4 @@ returns-in-Err-Line g c =
 
 pub returns : goal.returns
 returns g c =
-    unanswered (leading_not_empty c.args.input.now (c.parse.ensures.memory (c.in-Err-NoMemory.is ∙ ap Err c.in-Err-NoMemory.field-0-is))) refl refl
+    unanswered (inl (c.parse.ensures.memory (c.in-Err-NoMemory.is ∙ ap Err c.in-Err-NoMemory.field-0-is))) refl refl
