@@ -27,8 +27,8 @@ TakesAtMost old new limit = (count : ℕ) × (count ≤ limit) × TakesFront old
 abbrev pub TakesSome : Option (List ℕ) → Option (List ℕ) → ℕ → Type 0
 TakesSome old new limit = (count : ℕ) × (0 < count) × (count ≤ limit) × TakesFront old new count
 
--- One byte more than the limit was taken exactly where the fault is `TooLong`, with that count. Memory
--- is wanting only where a byte was taken: no bytes need none.
+-- One byte more than the limit was taken exactly where the fault is `TooLong`, with that count.
+-- Memory is wanting only where a byte was taken.
 abbrev pub TookBefore : ReadFault → ℕ → Option (List ℕ) → Option (List ℕ) → Type 0
 TookBefore Failed limit old new = TakesAtMost old new limit
 TookBefore (TooLong count) limit old new = (count ≡ limit + 1) × TakesFront old new (limit + 1)

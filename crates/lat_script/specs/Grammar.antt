@@ -137,8 +137,7 @@ Spells bytes script = Means at_start 1 (lines_of bytes) (Ok script)
 abbrev pub FirstBad : List ℕ → ℕ → ℕ → Type 0
 FirstBad bytes n kind = Means at_start 1 (lines_of bytes) (Err (n, kind))
 
--- Some number of lines from the first on spell a script, which has a command. So the last of them can
--- be its command, and nothing is bad before it.
+-- some number of lines, from the first on, spell a script that has a command
 abbrev pub LeadsToCommand : List ℕ → Type 0
 LeadsToCommand bytes = (count : ℕ) × (script : Script)
     × Means at_start 1 (take count (lines_of bytes)) (Ok script) × (0 < length script.prologue)

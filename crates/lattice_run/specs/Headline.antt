@@ -34,8 +34,8 @@ pub record Headline (words : List (List ℕ)) (source source' sink sink' : Strea
       × (input : List ℕ) × (answer : ℕ) × (text : List ℕ)
       × IsInput words input source.bytes source'.bytes × Answers words input answer text
       × AppendsPart sink.bytes sink'.bytes text
-  -- Status 6: the words are `solo`, at least one byte of the source was taken and at most the limit,
-  -- and nothing was appended.
+  -- Status 6: the words are `solo`, at least one byte of the source was taken, and at most the
+  -- limit, and nothing was appended.
   pub no_memory : status ≡ NO_MEMORY → IsSolo words
       × TakesSome source.bytes source'.bytes MAX_INPUT × Keeps sink.bytes sink'.bytes
   -- There is no other status.

@@ -30,7 +30,8 @@ pub data AnswersInput (input : List ℕ) (sink sink' : Stream) (result : ℕ) : 
   unanswered : NeedsMemory input → result ≡ NO_MEMORY → sink' ≡ sink
       → AnswersInput input sink sink' result
 
--- An answer was delivered, a read failed, or there was no memory for the word `solo` and some bytes.
+-- An answer was delivered, a read failed, or there was no memory, for the word `solo` and some
+-- bytes.
 pub data Ran (words : List (List ℕ)) (source source' sink sink' : Stream) (result : ℕ)
     : Type 0 where
   delivered : (input : List ℕ) (status : ℕ) (text : List ℕ) → source'.faults ≡ source.faults
