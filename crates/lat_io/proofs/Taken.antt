@@ -6,7 +6,7 @@ use Rattle.std.specs.Io.KnownBytes.{Consumes}
 use Rattle.std.proofs.KnownBytes.{Consumes-trans}
 use Rattle.lat_io.specs.declared.faults.ReadFault.{ReadFault}
 use Rattle.lat_io.specs.declared.faults.ReadFault.TheVariants.{NoMemory}
-use Rattle.lat_io.specs.Source.{TakesFront, TakesAtMost, TookBefore}
+use Rattle.lat_io.specs.Source.{TakesFront, TakesSome, TookBefore}
 
 -- what was consumed was taken from the front
 pub TakesFront-consumed : (a b : Option (List ℕ)) (bytes : List ℕ) → Consumes a b bytes
@@ -26,7 +26,7 @@ TakesFront-more a b c bytes buffer count h k fits =
 
 -- what was taken before there was no memory
 pub no_memory_took : {A : Type 0} (r : Result A ReadFault) (limit : ℕ) (old new : Option (List ℕ))
-    → IsErrAnd r (λ fault. fault ≡ NoMemory) → TakesAtMost old new limit
+    → IsErrAnd r (λ fault. fault ≡ NoMemory) → TakesSome old new limit
     → IfErr r (λ fault. TookBefore fault limit old new)
 no_memory_took (Ok a) limit old new none taken = tt
 no_memory_took (Err fault) limit old new none taken = subst (λ fault. TookBefore fault limit old new) (sym none) taken

@@ -3,8 +3,9 @@
 --     ReadWhole old new bytes         these bytes are all that was left, and nothing is left
 --     TakesFront old new count        this many bytes were taken, from the front
 --     TakesAtMost old new limit       some number of bytes up to a limit was taken, from the front
+--     TakesSome old new limit         the same, and at least one byte
 --     TookBefore fault limit old new  what was taken before `read_all` answered a fault
-use Rattle.std.specs.Prelude.{◌≡◌, ℕ, ◌+◌, ◌≤◌, List, [], length, drop, Option, None, Some, ⊤}
+use Rattle.std.specs.Prelude.{◌≡◌, ℕ, ◌+◌, ◌<◌, ◌≤◌, List, [], length, drop, Option, None, Some, ⊤}
 use Rattle.lat_io.specs.declared.faults.ReadFault.{ReadFault}
 use Rattle.lat_io.specs.declared.faults.ReadFault.TheVariants.{Failed, TooLong, NoMemory}
 
@@ -22,8 +23,13 @@ TakesFront (Some left) new count = (count ≤ length left) × (new ≡ Some (dro
 abbrev pub TakesAtMost : Option (List ℕ) → Option (List ℕ) → ℕ → Type 0
 TakesAtMost old new limit = (count : ℕ) × (count ≤ limit) × TakesFront old new count
 
--- one byte more than the limit was taken exactly where the fault is `TooLong`, with that count
+-- the first bytes that were left were taken, at least one of them and at most `limit`
+abbrev pub TakesSome : Option (List ℕ) → Option (List ℕ) → ℕ → Type 0
+TakesSome old new limit = (count : ℕ) × (0 < count) × (count ≤ limit) × TakesFront old new count
+
+-- One byte more than the limit was taken exactly where the fault is `TooLong`, with that count.
+-- Memory is wanting only where a byte was taken.
 abbrev pub TookBefore : ReadFault → ℕ → Option (List ℕ) → Option (List ℕ) → Type 0
 TookBefore Failed limit old new = TakesAtMost old new limit
 TookBefore (TooLong count) limit old new = (count ≡ limit + 1) × TakesFront old new (limit + 1)
-TookBefore NoMemory limit old new = TakesAtMost old new limit
+TookBefore NoMemory limit old new = TakesSome old new limit

@@ -46,8 +46,8 @@ const PIECE: usize = 4096;
 ///
 /// Gives [`ReadFault::TooLong`] with `limit + 1` exactly where the source gave that many bytes, and
 /// then it is read no further; [`ReadFault::Failed`] exactly where the source counted a fault in
-/// this call, and then it is read no further; and [`ReadFault::NoMemory`]. Where it fails, the
-/// first bytes of the source are gone.
+/// this call, and then it is read no further; and [`ReadFault::NoMemory`], only where it took a
+/// byte. Where it fails, the first bytes of the source are gone.
 pub fn read_all<S: Source>(
     alloc: Global,
     source: &mut S,

@@ -1,13 +1,14 @@
 -- Facts on numbers in decimal.
-use Rattle.std.proofs.Common.{◌≡◌, ℕ, ◌+◌, ◌-◌, ◌*◌, ◌^◌, ◌<◌, ◌≤◌, true, false, eqb, ltb, List, length, get_or, take, sym, ap, ◌∙◌, subst, inl, inr, arith}
-use Rattle.std.specs.Prelude.{◌&&◌, decimal}
+use Rattle.std.proofs.Common.{◌≡◌, ℕ, ◌+◌, ◌-◌, ◌*◌, ◌/◌, ◌%◌, ◌^◌, ◌<◌, ◌≤◌, true, false, eqb, ltb, List, [], ◌∷◌, ◌++◌, length, get_or, take, sym, ap, ◌∙◌, subst, inl, inr, arith, lit<, lit≤}
+use Rattle.std.specs.Prelude.{◌&&◌, decimal, codes}
 use Rattle.std.specs.Int.{IsInRange, IsOutOfRange}
 use Rattle.std.specs.Str.Parse.{AllDigits, digits_value}
-use Rattle.std.proofs.lemmas.Fmt.{decimal_is_IsNumeral, first_decimal, decimal_digit, decimal_nonempty, decimal-digits_value}
+use Rattle.std.proofs.lemmas.Fmt.{decimal_is_IsNumeral, first_decimal, decimal_digit, decimal_step, decimal_nonempty, decimal-digits_value}
 use Rattle.std.proofs.lemmas.Str.{digit_value_digit}
 use Rattle.std.proofs.lemmas.Str.Parse.{digit_at, numerals_by_value, tells_digits, digits_value-take-le}
 use Rattle.std.proofs.lemmas.Int.Digits.{digits_more, digits_value_more}
 use Rattle.std.proofs.lemmas.List.{take_all}
+use Rattle.lat_script.specs.declared.commands.TheConstants.{MAX_SCRIPT}
 use Rattle.std.proofs.lemmas.Bool.{and_parts, and_cases, ltb-true, ltb-false, eqb-true, eqb-false, cases_order}
 
 module _ (word : List ℕ) (n : ℕ) (small : n < 2 ^ 64) (is : word ≡ decimal n) where
@@ -65,3 +66,17 @@ number_whole word i all digits some no_zero small =
       | inr f ↦ absurd (eqb-false (get_or word 0 0) 48 f z)
     ] in
     rw e (sym (decimal-digits_value (numerals_by_value (AllDigits 10) tells_digits) word (subst (AllDigits 10) e digits) some first (subst (λ w. digits_value 10 w < 2 ^ 64) e small)))
+
+-- ---- the greatest length of a script, in decimal
+last_digit : (n : ℕ) (ds : List ℕ) → 10 ≤ n → n < 2 ^ 64 → decimal (n / 10) ≡ ds
+    → decimal n ≡ ds ++ (48 + n % 10) ∷ []
+last_digit n ds above fits e = decimal_step n above fits ∙ ap (λ ds. ds ++ (48 + n % 10) ∷ []) e
+
+pub limit_in_decimal : decimal MAX_SCRIPT ≡ codes "1048576"
+limit_in_decimal =
+    last_digit 1048576 (codes "104857") (lit≤ tt) (lit< tt)
+    (last_digit 104857 (codes "10485") (lit≤ tt) (lit< tt)
+    (last_digit 10485 (codes "1048") (lit≤ tt) (lit< tt)
+    (last_digit 1048 (codes "104") (lit≤ tt) (lit< tt)
+    (last_digit 104 (codes "10") (lit≤ tt) (lit< tt)
+    (last_digit 10 (codes "1") (lit≤ tt) (lit< tt) (decimal_digit 1 (lit< tt)))))))

@@ -11,7 +11,8 @@
 --     Means state n lines read     what lines say, from line n on, after what the state holds
 --     Spells bytes script          the bytes spell the script
 --     FirstBad bytes n kind        line n is the first bad one, and kind is its fault
-use Rattle.std.specs.Prelude.{◌≡◌, ◌⊎◌, ℕ, ◌+◌, ◌<◌, ◌≤◌, ◌^◌, ◌==◌, Bool, true, false, not, nat_lt, if◌then◌else◌, List, [], ◌∷◌, ◌++◌, length, filter, find, codes, decimal, Option, IfSome, Result, Ok, Err, MatchResult}
+--     LeadsToCommand bytes         some first lines spell a script that has a command
+use Rattle.std.specs.Prelude.{◌≡◌, ◌⊎◌, ℕ, ◌+◌, ◌<◌, ◌≤◌, ◌^◌, ◌==◌, Bool, true, false, not, nat_lt, if◌then◌else◌, List, [], ◌∷◌, ◌++◌, length, filter, find, take, codes, decimal, Option, IfSome, Result, Ok, Err, MatchResult}
 use Rattle.std.specs.List.{slice_split}
 use Rattle.lat_script.specs.declared.commands.TheConstants.{MAX_LINE, MAX_COMMANDS}
 use Rattle.lat_script.specs.declared.commands.Command.{Command}
@@ -135,3 +136,8 @@ Spells bytes script = Means at_start 1 (lines_of bytes) (Ok script)
 
 abbrev pub FirstBad : List ℕ → ℕ → ℕ → Type 0
 FirstBad bytes n kind = Means at_start 1 (lines_of bytes) (Err (n, kind))
+
+-- some number of lines, from the first on, spell a script that has a command
+abbrev pub LeadsToCommand : List ℕ → Type 0
+LeadsToCommand bytes = (count : ℕ) × (script : Script)
+    × Means at_start 1 (take count (lines_of bytes)) (Ok script) × (0 < length script.prologue)

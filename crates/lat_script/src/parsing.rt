@@ -2,7 +2,7 @@
 
 ghost use Rattle.std.specs.Prelude.{◌≡◌, ◌⊎◌, ℕ, ◌≤◌, true, length, Ok, Err, IfOk};
 ghost use Rattle.lat_script.specs.declared.commands.Script.{Script};
-ghost use Rattle.lat_script.specs.Grammar.{at_start, IsPassedOver, Spells, FirstBad};
+ghost use Rattle.lat_script.specs.Grammar.{at_start, IsPassedOver, Spells, FirstBad, LeadsToCommand};
 ghost use Rattle.lat_script.specs.declared.parsing.LineFault.TheVariants.{NoMemory as no_memory};
 ghost use Rattle.lat_script.specs.PrivateParsing.{at_line, TakesLine, Reads};
 
@@ -136,7 +136,8 @@ fn read(alloc: Global, bytes: &[u8]) -> Result<Script, ScriptFault>
 }
 
 /// The one script that the bytes spell, or their first fault: the first bad line, counted from 1 over
-/// all lines, and the kind of its fault. One pass over the bytes, which aren't copied.
+/// all lines, and the kind of its fault. One pass over the bytes, which aren't copied. Memory is
+/// taken for the commands alone.
 pub fn parse(alloc: Global, bytes: &[u8]) -> Result<Script, ScriptFault>
     requires { length bytes.now ≤ MAX_SCRIPT }
 
@@ -149,6 +150,9 @@ pub fn parse(alloc: Global, bytes: &[u8]) -> Result<Script, ScriptFault>
         → (result ≡ Ok script) ⊎ (result ≡ Err ScriptFault.NoMemory) }
     ensures every_fault { (n kind : ℕ) → FirstBad bytes.now n kind
         → (result ≡ Err (ScriptFault.Line n kind)) ⊎ (result ≡ Err ScriptFault.NoMemory) }
+
+    // Memory is taken for commands alone.
+    ensures memory { result ≡ Err ScriptFault.NoMemory → LeadsToCommand bytes.now }
 {
     read(alloc, bytes)
 }

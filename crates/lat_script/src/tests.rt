@@ -206,11 +206,25 @@ fn refused_lines(rt: HostRuntime) -> Result<(), Fail> {
 fn other_lines(rt: HostRuntime) -> Result<(), Fail> {
     let mut out = Vec::new(rt.alloc());
     add_summary(&mut out, 12, 13, 1)?;
-    add_bad_line(&mut out, 2, 3)?;
-    add_too_long(&mut out, 2048)?;
-    add_usage(&mut out)?;
-    let want =
-        b"summary fields 12 maps 13 changes 1\nbad script line 2 kind 3\nbad script longer than 2048 bytes\nusage: lattice_tool solo|share|dump|audit|gen SEED FIELDS EMBEDS\n";
-    assert_eq!(rt; out.as_slice(), want.as_slice());
+    assert_eq!(rt;
+        out.as_slice(),
+        b"summary fields 12 maps 13 changes 1\n".as_slice()
+    );
+    assert_eq!(rt;
+        bad_line(2, 3).bytes(),
+        b"bad script line 2 kind 3\n".as_slice()
+    );
+    assert_eq!(rt;
+        bad_line(u32::MAX, 0).bytes(),
+        b"bad script line 4294967295 kind 0\n".as_slice()
+    );
+    assert_eq!(rt;
+        too_long_line(),
+        b"bad script longer than 1048576 bytes\n".as_slice()
+    );
+    assert_eq!(rt;
+        usage_line(),
+        b"usage: lattice_tool solo|share|dump|audit|gen SEED FIELDS EMBEDS\n".as_slice()
+    );
     Ok(())
 }

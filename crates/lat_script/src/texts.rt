@@ -1,8 +1,8 @@
-//! The lines that the program prints.
+//! The lines of a transcript.
 
 ghost use Rattle.std.specs.Prelude.{◌≡◌, [], ◌++◌, if◌then◌else◌, codes, decimal, OnOk, OnErr};
 ghost use Rattle.lat_script.specs.PrivateAppending.{Extends};
-ghost use Rattle.lat_script.specs.Texts.{refusal_text, reply_text, outcome_text, line_text, summary_text, bad_line_text, too_long_text, usage_text};
+ghost use Rattle.lat_script.specs.Texts.{refusal_text, reply_text, outcome_text, line_text, summary_text};
 
 use crate::appending::{Piece, append};
 use crate::memory::NoMemory;
@@ -133,51 +133,5 @@ pub fn add_summary(out: &mut Vec<u8>, fields: u32, maps: u32, changes: u32) -> R
             Piece::Number(changes),
             Piece::Text(b"\n"),
         ],
-    )
-}
-
-/// Appends the line for a bad script, `bad script line N kind K`. Where memory is refused nothing is
-/// appended.
-pub fn add_bad_line(out: &mut Vec<u8>, number: u32, kind: u32) -> Result<(), NoMemory>
-    ensures ok { OnOk result (out.new.items ≡ out.old.items ++ bad_line_text number kind) }
-    ensures err { OnErr result (out.new.items ≡ out.old.items) }
-{
-    append(
-        out,
-        &[
-            Piece::Text(b"bad script line "),
-            Piece::Number(number),
-            Piece::Text(b" kind "),
-            Piece::Number(kind),
-            Piece::Text(b"\n"),
-        ],
-    )
-}
-
-/// Appends the line for a script that is too long, `bad script longer than LIMIT bytes`.
-/// Where memory is refused nothing is appended.
-pub fn add_too_long(out: &mut Vec<u8>, limit: u32) -> Result<(), NoMemory>
-    ensures ok { OnOk result (out.new.items ≡ out.old.items ++ too_long_text limit) }
-    ensures err { OnErr result (out.new.items ≡ out.old.items) }
-{
-    append(
-        out,
-        &[
-            Piece::Text(b"bad script longer than "),
-            Piece::Number(limit),
-            Piece::Text(b" bytes\n"),
-        ],
-    )
-}
-
-/// Appends the line that names the words of the command line. Where memory is refused nothing is
-/// appended.
-pub fn add_usage(out: &mut Vec<u8>) -> Result<(), NoMemory>
-    ensures ok { OnOk result (out.new.items ≡ out.old.items ++ usage_text) }
-    ensures err { OnErr result (out.new.items ≡ out.old.items) }
-{
-    append(
-        out,
-        &[Piece::Text(b"usage: lattice_tool solo|share|dump|audit|gen SEED FIELDS EMBEDS\n")],
     )
 }

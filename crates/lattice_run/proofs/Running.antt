@@ -1,22 +1,24 @@
 -- From the parts of a run to its answer.
-use Rattle.std.proofs.Common.{◌≡◌, ℕ, ◌+◌, ◌≤◌, ◌<◌, List, [], ◌∷◌, length, map, drop, replicate, slice_index_or, refl, ◌∙◌, sym, ap, subst, arith, Option, Some, None, Bool, true, false}
-use Rattle.std.specs.Prelude.{◌↔◌, IsTrue, IfOk, OnErr, Result, Ok, Err, bytes_eq}
+use Rattle.std.proofs.Common.{◌≡◌, ℕ, ◌+◌, ◌≤◌, ◌<◌, List, [], ◌∷◌, length, map, drop, replicate, slice_index_or, refl, ◌∙◌, sym, ap, subst, arith, Option, Some, None, Bool, true, false, inl, inr}
+use Rattle.std.specs.Prelude.{◌↔◌, IsTrue, bytes_eq}
 use Rattle.std.proofs.Math.ListN.{drop_of_length-le}
 use Rattle.std.proofs.lemmas.List.{length-replicate}
 use Rattle.std.proofs.lemmas.Slice.Eq.{bytes_eq-Decides}
 use Rattle.lat_io.specs.declared.faults.ReadFault.{ReadFault}
 use Rattle.lat_io.specs.declared.faults.ReadFault.TheVariants.{Failed, TooLong, NoMemory as ReadNoMemory}
-use Rattle.lat_io.specs.Source.{ReadWhole, TakesFront, TakesAtMost, TookBefore}
+use Rattle.lat_io.specs.Source.{ReadWhole, TakesFront, TakesAtMost, TakesSome, TookBefore}
 use Rattle.lat_io.specs.Streams.{Stream}
-use Rattle.lat_script.specs.Grammar.{FirstBad}
-use Rattle.lat_script.specs.Texts.{usage_text, bad_line_text, too_long_text}
-use Rattle.lat_script.specs.declared.memory.NoMemory.{NoMemory}
+use Rattle.lat_script.proofs.ParsedLines.{spelled_not_empty, leading_not_empty}
 use Rattle.lattice_run.specs.declared.run.TheConstants.{MAX_INPUT}
-use Rattle.lattice_run.specs.declared.run.Output.{Output}
-use Rattle.lattice_run.specs.declared.status.TheConstants.{NO_COMMAND, BAD_SCRIPT, NO_MEMORY}
-use Rattle.lattice_run.specs.Answers.{IsSolo, Answers, IsInput, TakesInput}
-use Rattle.lattice_run.specs.Answers.Answers.{usage, too_long, bad_line}
-use Rattle.lattice_run.specs.PrivateRuns.{Delivers, Ran}
+use Rattle.lat_script.specs.declared.commands.Script.{Script}
+use Rattle.lat_script.specs.Grammar.{Spells, FirstBad}
+use Rattle.lat_script.specs.Texts.{usage_text, bad_line_text, too_long_text}
+use Rattle.lattice_run.specs.declared.status.TheConstants.{DONE, NO_COMMAND, BAD_SCRIPT}
+use Rattle.lattice_run.specs.Transcript.{IsTranscript}
+use Rattle.lattice_run.specs.Answers.{IsSolo, IsInput, TakesInput}
+use Rattle.lattice_run.specs.Answers.Answers.{usage, too_long, bad_line, played}
+use Rattle.lattice_run.specs.PrivateRuns.{Delivers, NeedsMemory, AnswersInput, Ran}
+use Rattle.lattice_run.specs.PrivateRuns.AnswersInput.{answered, unanswered}
 use Rattle.lattice_run.specs.PrivateRuns.Ran.{delivered, no_memory}
 
 -- ---- words
@@ -38,46 +40,6 @@ one_word f (x ∷ []) w t text b l h i e d =
     let same : t ≡ f x = e ∙ ap f i in
     let dec = bytes_eq-Decides t text in
     (λ k. ap (λ u. u ∷ []) (sym same ∙ dec.0 (sym d ∙ k)), λ k. d ∙ dec.1 (same ∙ head_same k))
-
--- ---- what is to be written
--- an output of this status and text answers words and input
-output_answers : (words : List (List ℕ)) (input : List ℕ) (output : Output) (status : ℕ)
-    (text : List ℕ) → output.status ≡ status → output.text.items ≡ text
-    → Answers words input status text → Answers words input output.status output.text.items
-output_answers words input output status text s t a =
-    subst (λ s. Answers words input s output.text.items) (sym s) (subst (λ t. Answers words input status t) (sym t) a)
-
--- the line for a first fault answers the input
-pub answers_bad : (input : List ℕ) (line kind : ℕ) (r : Result Output NoMemory)
-    → length input ≤ MAX_INPUT → FirstBad input line kind
-    → IfOk r (λ output. (output.status ≡ BAD_SCRIPT) × (output.text.items ≡ bad_line_text line kind))
-    → IfOk r (λ output. (words : List (List ℕ)) → IsSolo words → Answers words input output.status output.text.items)
-answers_bad input line kind (Err e) fits bad h = tt
-answers_bad input line kind (Ok output) fits bad h = λ words solo. output_answers words input output BAD_SCRIPT (bad_line_text line kind) h.0 h.1 (bad_line solo fits line kind bad)
-
--- the usage line answers other words
-pub usage_answers : (words : List (List ℕ)) (input : List ℕ) (r : Result Output NoMemory)
-    → (IsSolo words → ⊥)
-    → IfOk r (λ output. (output.status ≡ NO_COMMAND) × (output.text.items ≡ usage_text))
-    → IfOk r (λ output. Answers words input output.status output.text.items)
-usage_answers words input (Err e) other h = tt
-usage_answers words input (Ok output) other h = output_answers words input output NO_COMMAND usage_text h.0 h.1 (usage other)
-
--- what answers an input for the word `solo` answers these words
-pub words_answers : (words : List (List ℕ)) (input : List ℕ) (r : Result Output NoMemory)
-    → IsSolo words
-    → IfOk r (λ output. (words : List (List ℕ)) → IsSolo words → Answers words input output.status output.text.items)
-    → IfOk r (λ output. Answers words input output.status output.text.items)
-words_answers words input (Err e) solo h = tt
-words_answers words input (Ok output) solo h = h words solo
-
--- the line for an input that is too long answers it
-pub too_long_answers : (words : List (List ℕ)) (input : List ℕ) (r : Result Output NoMemory)
-    → IsSolo words → MAX_INPUT < length input
-    → IfOk r (λ output. (output.status ≡ BAD_SCRIPT) × (output.text.items ≡ too_long_text MAX_INPUT))
-    → IfOk r (λ output. Answers words input output.status output.text.items)
-too_long_answers words input (Err e) solo l h = tt
-too_long_answers words input (Ok output) solo l h = output_answers words input output BAD_SCRIPT (too_long_text MAX_INPUT) h.0 h.1 (too_long solo l)
 
 -- ---- the input
 -- nothing stands past the end
@@ -139,20 +101,65 @@ before_at_most : (fault : ReadFault) (left left' : Option (List ℕ))
     → TookBefore fault MAX_INPUT left left' → TakesAtMost left left' (MAX_INPUT + 1)
 before_at_most Failed left left' (count, fits, taken) = (count, omega arith, taken)
 before_at_most (TooLong n) left left' (is, taken) = (MAX_INPUT + 1, omega arith, taken)
-before_at_most ReadNoMemory left left' (count, fits, taken) = (count, omega arith, taken)
+before_at_most ReadNoMemory left left' (count, some, fits, taken) = (count, omega arith, taken)
 
 -- where reading ends before that
 pub before_takes : (words : List (List ℕ)) (fault : ReadFault) (left left' : Option (List ℕ))
     → IsSolo words → TookBefore fault MAX_INPUT left left' → TakesInput words left left'
 before_takes words fault left left' solo h = solo_takes words left left' solo (before_at_most fault left left' h)
 
+-- ---- want of memory
+-- a text that has a byte was read whole
+pub some_taken : (left left' : Option (List ℕ)) (input : List ℕ) → 0 < length input
+    → length input ≤ MAX_INPUT → ReadWhole left left' input → TakesSome left left' MAX_INPUT
+some_taken None left' input some fits h = (length input, some, fits, tt)
+some_taken (Some bytes) left' input some fits h =
+    let same : length input ≡ length bytes = ap length h.0 in
+    (length bytes, omega arith, omega arith, (omega arith, h.1 ∙ ap Some (sym (nothing_past bytes (length bytes) (omega arith)))))
+
+needs_not_empty : (input : List ℕ) → NeedsMemory input → 0 < length input
+needs_not_empty input (inl leads) = leading_not_empty input leads
+needs_not_empty input (inr (script, spelled)) = spelled_not_empty input script spelled
+
 -- ---- the run
--- an output, or want of memory for it, is a way out of the run
-pub ran_output : (words : List (List ℕ)) (source source' sink sink' : Stream) (result : ℕ)
-    (r : Result Output NoMemory) (input : List ℕ) → source'.faults ≡ source.faults
-    → IsInput words input source.bytes source'.bytes
-    → IfOk r (λ output. Answers words input output.status output.text.items)
-    → IfOk r (λ output. Delivers output.status output.text.items sink sink' result)
-    → OnErr r ((result ≡ NO_MEMORY) × (sink' ≡ sink)) → Ran words source source' sink sink' result
-ran_output words source source' sink sink' result (Ok output) input u i a d m = delivered input output.status output.text.items u i a d
-ran_output words source source' sink sink' result (Err e) input u i a d m = no_memory m.0 u m.1
+-- an answer to the input, or want of memory for it, is a way out of the run
+pub ran_input : (words : List (List ℕ)) (source source' sink sink' : Stream) (result : ℕ)
+    (input : List ℕ) → IsSolo words → source'.faults ≡ source.faults
+    → length input ≤ MAX_INPUT → ReadWhole source.bytes source'.bytes input
+    → AnswersInput input sink sink' result → Ran words source source' sink sink' result
+ran_input words source source' sink sink' result input solo u fits h (answered status text a d) =
+    delivered input status text u (whole_input words source.bytes source'.bytes input solo fits h) (a words solo) d
+ran_input words source source' sink sink' result input solo u fits h (unanswered needs e k) =
+    no_memory solo (some_taken source.bytes source'.bytes input (needs_not_empty input needs) fits h) e u k
+
+-- the line for a first fault answers the input
+pub answered_bad : (input : List ℕ) (sink sink' : Stream) (result line kind : ℕ) (text : List ℕ)
+    → length input ≤ MAX_INPUT → FirstBad input line kind → text ≡ bad_line_text line kind
+    → Delivers BAD_SCRIPT text sink sink' result → AnswersInput input sink sink' result
+answered_bad input sink sink' result line kind text fits bad is d =
+    answered BAD_SCRIPT (bad_line_text line kind) (λ words solo. bad_line solo fits line kind bad) (subst (λ t. Delivers BAD_SCRIPT t sink sink' result) is d)
+
+-- the transcript answers it
+pub answered_played : (input : List ℕ) (sink sink' : Stream) (result : ℕ) (script : Script)
+    (text : List ℕ) → length input ≤ MAX_INPUT → Spells input script
+    → IsTranscript script.prologue text → Delivers DONE text sink sink' result
+    → AnswersInput input sink sink' result
+answered_played input sink sink' result script text fits spelled plays d =
+    answered DONE text (λ words solo. played solo fits script text spelled plays) d
+
+-- the usage line answers other words
+pub ran_usage : (words : List (List ℕ)) (source sink sink' : Stream) (result : ℕ) (text : List ℕ)
+    → (IsSolo words → ⊥) → text ≡ usage_text → Delivers NO_COMMAND text sink sink' result
+    → Ran words source source sink sink' result
+ran_usage words source sink sink' result text other is d =
+    let (input, unread) = unread_input words source.bytes other in
+    delivered input NO_COMMAND usage_text refl unread (usage other) (subst (λ t. Delivers NO_COMMAND t sink sink' result) is d)
+
+-- the line for an input that is too long answers it
+pub ran_too_long : (words : List (List ℕ)) (source source' sink sink' : Stream) (result : ℕ)
+    (text : List ℕ) → IsSolo words → source'.faults ≡ source.faults
+    → TakesFront source.bytes source'.bytes (MAX_INPUT + 1) → text ≡ too_long_text MAX_INPUT
+    → Delivers BAD_SCRIPT text sink sink' result → Ran words source source' sink sink' result
+ran_too_long words source source' sink sink' result text solo u taken is d =
+    let (input, long, whole) = long_input words source.bytes source'.bytes solo taken in
+    delivered input BAD_SCRIPT (too_long_text MAX_INPUT) u whole (too_long solo long) (subst (λ t. Delivers BAD_SCRIPT t sink sink' result) is d)

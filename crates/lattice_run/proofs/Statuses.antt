@@ -6,7 +6,7 @@ use Rattle.std.proofs.KnownBytes.{Keeps-refl}
 use Rattle.lat_io.specs.Faults.{one_more, Rose}
 use Rattle.lat_io.proofs.Counts.{one_more_rose}
 use Rattle.lat_io.specs.Sink.{AppendsPart}
-use Rattle.lat_io.specs.Source.{ReadWhole}
+use Rattle.lat_io.specs.Source.{ReadWhole, TakesSome}
 use Rattle.lat_io.specs.Streams.{Stream}
 use Rattle.lat_script.specs.declared.commands.Script.{Script}
 use Rattle.lat_script.specs.Grammar.{Spells}
@@ -80,6 +80,11 @@ module _ (words : List (List ℕ)) (source source' sink sink' : Stream) (result 
   ReadFailed : Type 0
   ReadFailed = IsSolo words × (source'.faults ≡ one_more source.faults) × Keeps sink.bytes sink'.bytes
 
+  -- what status 6 says
+  MemoryRefused : Type 0
+  MemoryRefused = IsSolo words × TakesSome source.bytes source'.bytes MAX_INPUT
+      × Keeps sink.bytes sink'.bytes
+
   -- what status 5 says
   WriteFailed : Type 0
   WriteFailed = (sink'.faults ≡ one_more sink.faults)
@@ -101,7 +106,7 @@ module _ (words : List (List ℕ)) (source source' sink sink' : Stream) (result 
   done (delivered input status text u i a (whole e w h)) z = done_answer i a (sym e ∙ z) h
   done (delivered input status text u i a (part e w h)) z = absurd (omega arith)
   done (unread solo e r k) z = absurd (omega arith)
-  done (no_memory e r k) z = absurd (omega arith)
+  done (no_memory solo t e r k) z = absurd (omega arith)
 
   answered : Ran words source source' sink sink' result → result < READ_FAILED → Answered result
   unfolding Answered
@@ -109,7 +114,7 @@ module _ (words : List (List ℕ)) (source source' sink sink' : Stream) (result 
       (input, text, i, subst (λ s. Answers words input s text) (sym e) a, h)
   answered (delivered input status text u i a (part e w h)) below = absurd (omega arith)
   answered (unread solo e r k) below = absurd (omega arith)
-  answered (no_memory e r k) below = absurd (omega arith)
+  answered (no_memory solo t e r k) below = absurd (omega arith)
 
   -- what was delivered whole has the status of an answer
   not_answered : {input : List ℕ} {status : ℕ} {text : List ℕ} → Answers words input status text
@@ -121,51 +126,51 @@ module _ (words : List (List ℕ)) (source source' sink sink' : Stream) (result 
   read_failed (delivered input status text u i a (whole e w h)) z = absurd (not_answered a e (omega arith))
   read_failed (delivered input status text u i a (part e w h)) z = absurd (omega arith)
   read_failed (unread solo e r k) z = (solo, r, kept sink sink' k)
-  read_failed (no_memory e r k) z = absurd (omega arith)
+  read_failed (no_memory solo t e r k) z = absurd (omega arith)
 
   write_failed : Ran words source source' sink sink' result → result ≡ WRITE_FAILED → WriteFailed
   unfolding WriteFailed
   write_failed (delivered input status text u i a (whole e w h)) z = absurd (not_answered a e (omega arith))
   write_failed (delivered input status text u i a (part e w h)) z = (w, input, status, text, i, a, h)
   write_failed (unread solo e r k) z = absurd (omega arith)
-  write_failed (no_memory e r k) z = absurd (omega arith)
+  write_failed (no_memory solo t e r k) z = absurd (omega arith)
 
-  memory_refused : Ran words source source' sink sink' result → result ≡ NO_MEMORY
-      → Keeps sink.bytes sink'.bytes
+  memory_refused : Ran words source source' sink sink' result → result ≡ NO_MEMORY → MemoryRefused
+  unfolding MemoryRefused
   memory_refused (delivered input status text u i a (whole e w h)) z = absurd (not_answered a e (omega arith))
   memory_refused (delivered input status text u i a (part e w h)) z = absurd (omega arith)
   memory_refused (unread solo e r k) z = absurd (omega arith)
-  memory_refused (no_memory e r k) z = kept sink sink' k
+  memory_refused (no_memory solo t e r k) z = (solo, t, kept sink sink' k)
 
   statuses : Ran words source source' sink sink' result → Listed result
   unfolding Listed
   statuses (delivered input status text u i a (whole e w h)) = answer_listed result a e
   statuses (delivered input status text u i a (part e w h)) = (4, lit< tt, sym e)
   statuses (unread solo e r k) = (3, lit< tt, sym e)
-  statuses (no_memory e r k) = (5, lit< tt, sym e)
+  statuses (no_memory solo t e r k) = (5, lit< tt, sym e)
 
   reads_counted : Ran words source source' sink sink' result → result ≢ READ_FAILED
       → source'.faults ≡ source.faults
   reads_counted (delivered input status text u i a d) n = u
   reads_counted (unread solo e r k) n = absurd (n e)
-  reads_counted (no_memory e r k) n = r
+  reads_counted (no_memory solo t e r k) n = r
 
   writes_counted : Ran words source source' sink sink' result → result ≢ WRITE_FAILED
       → sink'.faults ≡ sink.faults
   writes_counted (delivered input status text u i a (whole e w h)) n = w
   writes_counted (delivered input status text u i a (part e w h)) n = absurd (n e)
   writes_counted (unread solo e r k) n = ap (λ s. s.faults) k
-  writes_counted (no_memory e r k) n = ap (λ s. s.faults) k
+  writes_counted (no_memory solo t e r k) n = ap (λ s. s.faults) k
 
   other_words : Ran words source source' sink sink' result → (IsSolo words → ⊥)
-      → (Rose sink.faults sink'.faults → ⊥) → (result ≡ NO_COMMAND) ⊎ (result ≡ NO_MEMORY)
-  other_words (delivered input status text u i (usage o) (whole e w h)) other r = inl e
+      → (Rose sink.faults sink'.faults → ⊥) → result ≡ NO_COMMAND
+  other_words (delivered input status text u i (usage o) (whole e w h)) other r = e
   other_words (delivered input status text u i (too_long solo l) (whole e w h)) other r = absurd (other solo)
   other_words (delivered input status text u i (bad_line solo f line kind b) (whole e w h)) other r = absurd (other solo)
   other_words (delivered input status text u i (played solo f script t s m) (whole e w h)) other r = absurd (other solo)
   other_words (delivered input status text u i a (part e w h)) other r = absurd (r (one_more_rose sink.faults sink'.faults w))
   other_words (unread solo e f k) other r = absurd (other solo)
-  other_words (no_memory e f k) other r = inr e
+  other_words (no_memory solo t e f k) other r = absurd (other solo)
 
   complete : Ran words source source' sink sink' result → (Rose source.faults source'.faults → ⊥)
       → (Rose sink.faults sink'.faults → ⊥) → (input : List ℕ) (answer : ℕ) (text : List ℕ)
@@ -176,13 +181,13 @@ module _ (words : List (List ℕ)) (source source' sink sink' : Stream) (result 
       inl (e ∙ (answer_unique (subst (λ x. Answers words x s text) same a) b).0)
   complete (delivered input s text u i a (part e w h)) r f bytes answer other is b = absurd (f (one_more_rose sink.faults sink'.faults w))
   complete (unread solo e w k) r f bytes answer other is b = absurd (r (one_more_rose source.faults source'.faults w))
-  complete (no_memory e w k) r f bytes answer other is b = inr e
+  complete (no_memory solo t e w k) r f bytes answer other is b = inr e
 
   -- **the headline**
   pub headline : Ran words source source' sink sink' result
       → TakesInput words source.bytes source'.bytes
       → Headline words source source' sink sink' result
-  unfolding Done Answered ReadFailed WriteFailed Listed
+  unfolding Done Answered ReadFailed MemoryRefused WriteFailed Listed
   headline ran taken = record {
     done = λ e. done ran e;
     answered = λ c. answered ran (answered_below result c);

@@ -5,10 +5,11 @@ use Rattle.std.specs.Prelude.{◌≡◌, ◌≢◌, ◌⊎◌, ℕ, List, [], �
 use Rattle.std.specs.Io.KnownBytes.{Keeps, Appends}
 use Rattle.lat_io.specs.Faults.{one_more, Rose}
 use Rattle.lat_io.specs.Sink.{AppendsPart}
-use Rattle.lat_io.specs.Source.{ReadWhole}
+use Rattle.lat_io.specs.Source.{ReadWhole, TakesSome}
 use Rattle.lat_io.specs.Streams.{Stream}
 use Rattle.lat_script.specs.declared.commands.Script.{Script}
 use Rattle.lat_script.specs.Grammar.{Spells}
+use Rattle.lattice_run.specs.declared.run.TheConstants.{MAX_INPUT}
 use Rattle.lattice_run.specs.declared.status.TheConstants.{DONE, NO_COMMAND, BAD_SCRIPT, READ_FAILED, WRITE_FAILED, NO_MEMORY}
 use Rattle.lattice_run.specs.Answers.{IsSolo, Answers, IsInput, TakesInput}
 use Rattle.lattice_run.specs.Transcript.{IsTranscript}
@@ -33,8 +34,10 @@ pub record Headline (words : List (List ℕ)) (source source' sink sink' : Strea
       × (input : List ℕ) × (answer : ℕ) × (text : List ℕ)
       × IsInput words input source.bytes source'.bytes × Answers words input answer text
       × AppendsPart sink.bytes sink'.bytes text
-  -- Status 6: nothing was appended.
-  pub no_memory : status ≡ NO_MEMORY → Keeps sink.bytes sink'.bytes
+  -- Status 6: the words are `solo`, at least one byte of the source was taken, and at most the
+  -- limit, and nothing was appended.
+  pub no_memory : status ≡ NO_MEMORY → IsSolo words
+      × TakesSome source.bytes source'.bytes MAX_INPUT × Keeps sink.bytes sink'.bytes
   -- There is no other status.
   pub statuses :
       Contains (DONE ∷ NO_COMMAND ∷ BAD_SCRIPT ∷ READ_FAILED ∷ WRITE_FAILED ∷ NO_MEMORY ∷ []) status
@@ -43,9 +46,8 @@ pub record Headline (words : List (List ℕ)) (source source' sink sink' : Strea
   pub writes : status ≢ WRITE_FAILED → sink'.faults ≡ sink.faults
   -- Whatever the status, nothing is taken for other words, and else at most the limit and one byte.
   pub taken : TakesInput words source.bytes source'.bytes
-  -- Where no count of faults rose, other words are answered by 2, but for memory.
-  pub other_words : ¬ IsSolo words → ¬ Rose sink.faults sink'.faults
-      → (status ≡ NO_COMMAND) ⊎ (status ≡ NO_MEMORY)
+  -- Where no count of faults rose, other words are answered by 2.
+  pub other_words : ¬ IsSolo words → ¬ Rose sink.faults sink'.faults → status ≡ NO_COMMAND
   -- Where no count of faults rose and the source tells its bytes, the status is that of the answer
   -- that words and input have, but for memory.
   pub complete : ¬ Rose source.faults source'.faults → ¬ Rose sink.faults sink'.faults

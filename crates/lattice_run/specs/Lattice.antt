@@ -11,6 +11,7 @@
 --     IsWellFormed p f          what a field can be declared by, but for irreducibility
 --     IsMalformed p f refusal   why p and f are no such
 --     Declares rows name p f reply new     declaring answers this reply and leaves the fields new
+--     AddsField rows name p f              declaring adds a field
 use Rattle.std.specs.Prelude.{◌≡◌, ◌≢◌, ℕ, ◌+◌, ◌-◌, ◌≤◌, ◌<◌, true, false, List, [], ◌∷◌, ◌++◌, map, length, take, drop, codes, decimal, position, slice_get, slice_index, Option, Some, None, All, Contains}
 use Rattle.std.specs.List.{AllPairs}
 use Rattle.std.specs.Prelude.{bytes_eq}
@@ -123,3 +124,8 @@ pub data Declares (rows : List FieldRow) (name : List ℕ) (p : ℕ) (f : List �
       → length rows + 1 ≤ MAX_FIELDS → reply ≡ Declared (length rows) false
       → new ≡ rows ++ record { name = name; characteristic = p; polynomial = f } ∷ []
       → Declares rows name p f reply new
+
+-- declaring adds a field, which is the last
+abbrev pub AddsField : List FieldRow → List ℕ → ℕ → List ℕ → Type 0
+AddsField rows name p f = Declares rows name p f (Declared (length rows) false)
+    (rows ++ record { name = name; characteristic = p; polynomial = f } ∷ [])

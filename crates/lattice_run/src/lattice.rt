@@ -5,7 +5,7 @@ ghost use Rattle.std.specs.Ordering.{nat_cmp};
 ghost use Rattle.alg_model.specs.Coefficients.{residues};
 ghost use Rattle.alg_model.specs.Factors.{IsIrreducible, IsLeastFactor};
 ghost use Rattle.lat_script.specs.declared.replies.Reply.{Reply};
-ghost use Rattle.lattice_run.specs.Lattice.{IsInTable, opening, field_named, prime_field, map_count, FieldRow, IsLattice, IsFirstTooLarge, IsWellFormed, IsMalformed, AnswersTakenName, Declares};
+ghost use Rattle.lattice_run.specs.Lattice.{IsInTable, opening, field_named, prime_field, map_count, FieldRow, IsLattice, IsFirstTooLarge, IsWellFormed, IsMalformed, AnswersTakenName, Declares, AddsField};
 
 use ff_factor::{Verdict, judge};
 use ff_poly::{Poly, Prime};
@@ -198,7 +198,9 @@ impl Lattice {
     pub fn declare(&mut self, name: &FieldName, p: u32, digits: &Digits) -> Result<Reply, NoMemory>
         ensures declared { IfOk result (λ reply.
             Declares self.old name.now p digits.now reply self.new) }
-        ensures memory { OnErr result (self.new ≡ self.old) }
+        // Memory is taken for a further field alone.
+        ensures kept { OnErr result (self.new ≡ self.old) }
+        ensures memory { OnErr result (AddsField self.old name.now p digits.now) }
     {
         let polynomial = match well_formed(p, digits) {
             Ok(polynomial) => polynomial,

@@ -1,16 +1,15 @@
 //! The top call.
 
-ghost use Rattle.std.specs.Prelude.{◌≡◌, ◌↔◌, ◌≤◌, List, ℕ, map, length, IsTrue, OnErr, IfOk, string_bytes};
+ghost use Rattle.std.specs.Prelude.{◌≡◌, ◌↔◌, ◌≤◌, map, length, IsTrue, string_bytes};
 ghost use Rattle.lat_io.specs.Streams.{stream};
-ghost use Rattle.lat_script.specs.Texts.{usage_text, too_long_text, bad_line_text};
-ghost use Rattle.lattice_run.specs.Answers.{IsSolo, Answers, TakesInput};
+ghost use Rattle.lattice_run.specs.Answers.{IsSolo, TakesInput};
 ghost use Rattle.lattice_run.specs.Headline.{Headline};
-ghost use Rattle.lattice_run.specs.PrivateRuns.{Delivers, Ran};
+ghost use Rattle.lattice_run.specs.PrivateRuns.{Delivers, AnswersInput, Ran};
 
 use crate::play::play;
 use crate::status::{BAD_SCRIPT, DONE, NO_COMMAND, NO_MEMORY, READ_FAILED, WRITE_FAILED};
 use lat_io::{Failed, ReadFault, Sink, Source, read_all, write_all_of};
-use lat_script::{MAX_SCRIPT, NoMemory, ScriptFault, add_bad_line, add_too_long, add_usage, parse};
+use lat_script::{MAX_SCRIPT, NoMemory, ScriptFault, bad_line, parse, too_long_line, usage_line};
 use std::alloc::Global;
 
 /// The most bytes of an input.
@@ -26,84 +25,34 @@ fn is_solo(words: &[String]) -> bool
     }
 }
 
-// What is to be written, and the status.
-#[derive(Drop)]
-struct Output {
-    status: u8,
-    text: Vec<u8>,
-}
-
-// The output for other words than `solo`.
-fn usage(alloc: Global) -> Result<Output, NoMemory>
-    ensures { IfOk result (λ output.
-        (output.status ≡ NO_COMMAND) × (output.text.items ≡ usage_text)) }
+// Writes the text, and gives the status, or that of a failed write.
+fn deliver<K: Sink>(sink: &mut K, status: u8, text: &[u8]) -> u8
+    ensures { Delivers status text.now
+        (stream (K.held sink.old) (K.faults sink.old))
+        (stream (K.held sink.new) (K.faults sink.new)) result }
 {
-    let mut text = Vec::new(alloc);
-    add_usage(&mut text)?;
-    Ok(Output {
-        status: NO_COMMAND,
-        text,
-    })
-}
-
-// The output for an input that is too long.
-fn too_long(alloc: Global) -> Result<Output, NoMemory>
-    ensures { IfOk result (λ output.
-        (output.status ≡ BAD_SCRIPT) × (output.text.items ≡ too_long_text MAX_INPUT)) }
-{
-    let mut text = Vec::new(alloc);
-    add_too_long(&mut text, MAX_INPUT as u32)?;
-    Ok(Output {
-        status: BAD_SCRIPT,
-        text,
-    })
-}
-
-// The output for a bad script.
-fn bad_line(alloc: Global, number: u32, kind: u32) -> Result<Output, NoMemory>
-    ensures { IfOk result (λ output.
-        (output.status ≡ BAD_SCRIPT) × (output.text.items ≡ bad_line_text number kind)) }
-{
-    let mut text = Vec::new(alloc);
-    add_bad_line(&mut text, number, kind)?;
-    Ok(Output {
-        status: BAD_SCRIPT,
-        text,
-    })
-}
-
-// The output for an input that was read whole.
-fn output_of(alloc: Global, input: &[u8]) -> Result<Output, NoMemory>
-    requires { length input.now ≤ MAX_INPUT }
-    ensures { IfOk result (λ output. (words : List (List ℕ)) → IsSolo words
-        → Answers words input.now output.status output.text.items) }
-{
-    match parse(alloc, input) {
-        Ok(script) => {
-            let text = play(alloc, &script)?;
-            Ok(Output { status: DONE, text })
-        }
-        Err(ScriptFault::Line { number, kind }) => bad_line(alloc, number, kind),
-        Err(ScriptFault::NoMemory) => Err(NoMemory),
+    match write_all_of(sink, text) {
+        Ok(()) => status,
+        Err(Failed) => WRITE_FAILED,
     }
 }
 
-// Writes the output, and gives its status, or that of a failed write; where there was no memory for
-// the output, nothing is written.
-fn deliver<K: Sink>(sink: &mut K, output: Result<Output, NoMemory>) -> u8
-    ensures output { IfOk output (λ output. Delivers output.status output.text.items
+// Writes the answer to an input that was read whole, and gives the status.
+fn answer<K: Sink>(alloc: Global, input: &[u8], sink: &mut K) -> u8
+    requires { length input.now ≤ MAX_INPUT }
+    ensures { AnswersInput input.now
         (stream (K.held sink.old) (K.faults sink.old))
-        (stream (K.held sink.new) (K.faults sink.new)) result) }
-    ensures memory { OnErr output ((result ≡ NO_MEMORY)
-        × (stream (K.held sink.new) (K.faults sink.new)
-        ≡ stream (K.held sink.old) (K.faults sink.old))) }
+        (stream (K.held sink.new) (K.faults sink.new)) result }
 {
-    match output {
-        Ok(output) => match write_all_of(sink, &output.text) {
-            Ok(()) => output.status,
-            Err(Failed) => WRITE_FAILED,
+    match parse(alloc, input) {
+        Ok(script) => match play(alloc, &script) {
+            Ok(text) => deliver(sink, DONE, &text),
+            Err(NoMemory) => NO_MEMORY,
         },
-        Err(NoMemory) => NO_MEMORY,
+        Err(ScriptFault::Line { number, kind }) => {
+            deliver(sink, BAD_SCRIPT, bad_line(number, kind).bytes())
+        }
+        Err(ScriptFault::NoMemory) => NO_MEMORY,
     }
 }
 
@@ -118,11 +67,11 @@ fn run<S: Source, K: Sink>(alloc: Global, words: &[String], source: &mut S, sink
         (S.left source.old) (S.left source.new) }
 {
     if !is_solo(words) {
-        return deliver(sink, usage(alloc));
+        return deliver(sink, NO_COMMAND, usage_line());
     }
     match read_all(alloc, source, MAX_INPUT) {
-        Ok(input) => deliver(sink, output_of(alloc, &input)),
-        Err(ReadFault::TooLong(_)) => deliver(sink, too_long(alloc)),
+        Ok(input) => answer(alloc, &input, sink),
+        Err(ReadFault::TooLong(_)) => deliver(sink, BAD_SCRIPT, too_long_line()),
         Err(ReadFault::Failed) => READ_FAILED,
         Err(ReadFault::NoMemory) => NO_MEMORY,
     }
@@ -139,7 +88,8 @@ fn run<S: Source, K: Sink>(alloc: Global, words: &[String], source: &mut S, sink
 ///   was appended.
 /// - [`READ_FAILED`]: a read failed; nothing was appended.
 /// - [`WRITE_FAILED`]: a write failed; the beginning of what was to be appended was.
-/// - [`NO_MEMORY`]: there was no memory; nothing was appended.
+/// - [`NO_MEMORY`]: there was no memory; `words` are `solo` alone, a byte was read, and nothing was
+///   appended.
 pub fn run_plain<S: Source, K: Sink>(
     alloc: Global,
     words: &[String],

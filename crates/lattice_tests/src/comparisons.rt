@@ -1,27 +1,9 @@
 //! `judge` against trial division on all polynomials of small degree, with counts after Gauss.
-ghost use Rattle.std.specs.Prelude.{◌+◌, ◌<◌, ◌≤◌, length};
-ghost use Rattle.alg_model.specs.Coefficients.{residues};
-ghost use Rattle.alg_model.specs.Factors.{IsMonic};
 
-use crate::trial_division::{can_try, least_factor};
+use crate::trial_division::{can_try, is_monic, least_factor};
 use ff_factor::{Verdict, check, judge};
 use ff_poly::{MAX_DEGREE, Poly, Prime};
 use std::process::Abort;
-
-/// The monic polynomial with these coefficients.
-pub(crate) fn monic(rt: &impl Abort, p: u32, c: &[u8]) -> Poly
-    ensures monic { IsMonic (residues result.prime) result.coefficients }
-    ensures not_constant { 1 < length result.coefficients }
-    ensures degree { length result.coefficients ≤ MAX_DEGREE + 1 }
-{
-    let prime = Prime::of(p).expect(rt, "a characteristic");
-    let f = Poly::of_slice(prime, c).expect(rt, "residues, and few enough");
-    let coefficients = f.coefficients();
-    let len = coefficients.len();
-    assert!(rt; len > 1 && len <= MAX_DEGREE + 1);
-    assert!(rt; coefficients[len - 1] == 1);
-    f
-}
 
 // How many of the monic polynomials of this degree are irreducible.
 fn count(rt: &impl Abort, p: u8, degree: usize) -> u32 {
@@ -52,7 +34,11 @@ fn next(p: u8, c: &mut [u8]) -> bool {
 
 // 1 where the polynomial is irreducible, with a certificate that holds; 0 where it is not. Trial division finds the same.
 fn judged(rt: &impl Abort, p: u32, c: &[u8]) -> u32 {
-    let f = monic(rt, p, c);
+    let prime = Prime::of(p).expect(rt, "a characteristic");
+    let f = Poly::of_slice(prime, c).expect(rt, "residues, and few enough");
+    let len = f.coefficients().len();
+    assert!(rt; len > 1 && len <= MAX_DEGREE + 1);
+    assert!(rt; is_monic(&f));
     assert!(rt; can_try(&f));
     let tried = least_factor(&f);
     match judge(&f) {

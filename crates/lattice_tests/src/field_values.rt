@@ -1,10 +1,13 @@
 //! Arithmetic of fields: examples that were computed with PARI, and some by hand over 2 modulo
 //! 1 + x + x^4.
+ghost use Rattle.std.specs.Prelude.{◌+◌, ◌<◌, ◌≤◌, length};
+ghost use Rattle.alg_model.specs.Coefficients.{residues};
+ghost use Rattle.alg_model.specs.Factors.{IsMonic};
 ghost use Rattle.alg_model.specs.Maps.{field_values};
 
-use crate::comparisons::monic;
 use ff_factor::{Verdict, judge};
 use ff_field::{Field, Value, ValueFault};
+use ff_poly::{MAX_DEGREE, Poly, Prime};
 use std::cmp::Ordering;
 use std::process::Abort;
 
@@ -206,6 +209,21 @@ const EXAMPLES: [Example; 6] = [
         norm: 16,
     },
 ];
+
+// The monic polynomial with these coefficients.
+fn monic(rt: &impl Abort, p: u32, c: &[u8]) -> Poly
+    ensures monic { IsMonic (residues result.prime) result.coefficients }
+    ensures not_constant { 1 < length result.coefficients }
+    ensures degree { length result.coefficients ≤ MAX_DEGREE + 1 }
+{
+    let prime = Prime::of(p).expect(rt, "a characteristic");
+    let f = Poly::of_slice(prime, c).expect(rt, "residues, and few enough");
+    let coefficients = f.coefficients();
+    let len = coefficients.len();
+    assert!(rt; len > 1 && len <= MAX_DEGREE + 1);
+    assert!(rt; coefficients[len - 1] == 1);
+    f
+}
 
 // The field with this characteristic and this polynomial.
 fn field_of(rt: &impl Abort, p: u32, c: &[u8]) -> Field {

@@ -55,7 +55,7 @@ fn divides(g: &Poly, f: &Poly) -> bool
 }
 
 // Whether the last coefficient is 1.
-fn is_monic(f: &Poly) -> bool
+pub(crate) fn is_monic(f: &Poly) -> bool
     ensures { IsTrue result ↔ IsMonic (residues f.now.prime) f.now.coefficients }
 {
     let coefficients = f.coefficients();

@@ -11,4 +11,4 @@ returns-then-count-room-clause-fault g c =
 pub returns-in_err-extend_from_slice-clause-fault : goal.returns-in_err-extend_from_slice-clause-fault
 returns-in_err-extend_from_slice-clause-fault g c =
     no_memory_took c.from_residual-in_err-extend_from_slice.result c.args.limit _ _ c.from_residual-in_err-extend_from_slice.ensures.1
-    (length c.pieces.bytes.items + c.in_ok-count.count, search rules, TakesFront-more _ _ _ _ _ _ c.pieces.invariant.taken c.in_ok-count.ensures.taken c.in_ok-count.ensures.within)
+    (length c.pieces.bytes.items + c.in_ok-count.count, search rules, search rules, TakesFront-more _ _ _ _ _ _ c.pieces.invariant.taken c.in_ok-count.ensures.taken c.in_ok-count.ensures.within)
