@@ -5,13 +5,15 @@ use Rattle.std.proofs.Common.{◌≡◌, ◌⊎◌, ⊎_elim, ℕ, zero, suc, �
 use Rattle.std.proofs.lemmas.Bool.{cases_lt, cases_eq}
 use Rattle.std.proofs.lemmas.List.{length-append, length-replicate}
 use Rattle.std.proofs.lemmas.List.Elements.{All-nil, All-cons, All-append, All-head, All-tail}
-use Rattle.std.proofs.Math.Nat.{mul-le-mul_left}
+use Rattle.std.proofs.Math.Nat.{mul-le-mul_left, pow-zero}
 use Rattle.alg_model.specs.Coefficients.{mod_ops, residues, IsPrime, IsCharacteristic}
-use Rattle.alg_model.specs.Polynomials.{leading}
+use Rattle.alg_model.specs.Polynomials.{leading, trim}
 use Rattle.alg_model.specs.Factors.{IsMonic, IsIrreducible}
 use Rattle.alg_model.specs.Values.{degree}
 use Rattle.alg_model.specs.Roots.{IsBefore, IsLeastIrreducible}
 use Rattle.alg_rings.proofs.Divisors.{Polynomial}
+use Rattle.alg_rings.proofs.Residues.{zero_test}
+use Rattle.alg_rings.proofs.Trims.{trimmed_from_leading}
 use Rattle.alg_rings.proofs.Primes.{characteristic_is_prime}
 use Rattle.alg_rings.proofs.ResidueFields.{prime_residues_field, residues_propositional}
 use Rattle.alg_rings.proofs.PolynomialOrder.{order_by_same, nat_cmp_same}
@@ -54,7 +56,8 @@ monic_below p d [] m v e = absurd (omega arith)
 monic_below p d (x ∷ []) m v e =
     let z : d ≡ 0 = omega arith in
     let o : x ≡ 1 = m in
-    subst (λ k. x + p * 0 < 2 * p ^ k) (sym z) (omega arith)
+    let w : p ^ 0 ≡ 1 = pow-zero p in
+    subst (λ k. x + p * 0 < 2 * p ^ k) (sym z) (omega (arith, w, o))
 monic_below p zero (x ∷ y ∷ ys) m v e = absurd (omega arith)
 monic_below p (suc d) (x ∷ y ∷ ys) m v e =
     let h = digit_below p (number p (y ∷ ys)) (2 * p ^ d) x 0 (All-head (λ x. x < p) x (y ∷ ys) v)
@@ -68,7 +71,8 @@ monic_above p d [] m e = absurd (omega arith)
 monic_above p d (x ∷ []) m e =
     let z : d ≡ 0 = omega arith in
     let o : x ≡ 1 = m in
-    subst (λ k. p ^ k ≤ x + p * 0) (sym z) (omega arith)
+    let w : p ^ 0 ≡ 1 = pow-zero p in
+    subst (λ k. p ^ k ≤ x + p * 0) (sym z) (omega (arith, w, o))
 monic_above p zero (x ∷ y ∷ ys) m e = absurd (omega arith)
 monic_above p (suc d) (x ∷ y ∷ ys) m e =
     let h : p * p ^ d ≤ p * number p (y ∷ ys) = mul-le-mul_left p (monic_above p d (y ∷ ys) m (omega arith)) in
@@ -91,14 +95,14 @@ module _ (p d : ℕ) (C : IsCharacteristic p) (l : 0 < d) where
   none_before_first h m i e b =
       let n : length (replicate {A = ℕ} d 0) ≡ d = length-replicate {A = ℕ} d 0 in
       let zeros : All (λ x. x < p) (replicate d 0) = zeros_below d in
-      let c : number p (candidate (replicate d 0)) ≡ p ^ d =
-      candidate_number p (replicate d 0) ∙ ap (λ t. t + p ^ length (replicate {A = ℕ} d 0)) (zeros_number p d)
-      ∙ ap (λ t. 0 + p ^ t) n in
+      let c = candidate_number p (replicate d 0) in
+      let k : p ^ length (replicate {A = ℕ} d 0) ≡ p ^ d = ap (λ t. p ^ t) n in
+      let z = zeros_number p d in
       let s = compared p h (candidate (replicate d 0))
       (length_of h i e ∙ sym (candidate_length (replicate d 0) ∙ ap suc n)) i.polynomial.0
       (candidate_residues p (replicate d 0) prime.above_one zeros) b in
       let a = monic_above p d h m (length_of h i e) in
-      omega (arith, s, a, c)
+      omega (arith, s, a, c, k, z)
     where
       zeros_below : (n : ℕ) → All (λ x. x < p) (replicate n 0)
       zeros_below zero = All-nil (λ x. x < p)
@@ -163,3 +167,8 @@ module _ (p d : ℕ) (C : IsCharacteristic p) (l : 0 < d) where
     of_degree = omega (arith, candidate_length lower, n);
     least = none;
   }
+
+-- the candidate has no zero at its end
+pub candidate_trimmed : (p : ℕ) (lower : List ℕ) → 1 < p → trim (mod_ops p) (candidate lower) ≡ candidate lower
+candidate_trimmed p lower above = trimmed_from_leading (mod_ops p) (zero_test p) (candidate lower)
+    (λ z. let e : 1 ≡ 0 = sym (candidate_monic p lower) ∙ z in omega arith)

@@ -23,7 +23,7 @@ pub fn least_irreducible(p: Prime, d: u32) -> Poly
     let mut lower = zeros(d as usize);
     let mut candidate = monic(p, lower.as_slice());
     while !is_irreducible(&candidate) {
-        advance(p, lower.as_mut_slice());
+        step(p, &mut lower);
         candidate = monic(p, lower.as_slice());
     }
     candidate
@@ -81,6 +81,17 @@ fn is_not_split(f: &Poly) -> bool
         Finding::Irreducible(_) => true,
         Finding::Divisor(_) => false,
     }
+}
+
+// The same for the residues of a list.
+fn step(p: Prime, lower: &mut ArrayVec<u8, MAX_DEGREE>)
+    requires residues { All (λ x. x < p) lower.old.items }
+    requires not_last { number p lower.old.items + 1 < p ^ length lower.old.items }
+    ensures residues { All (λ x. x < p) lower.new.items }
+    ensures len { length lower.new.items ≡ length lower.old.items }
+    ensures next { number p lower.new.items ≡ number p lower.old.items + 1 }
+{
+    advance(p, lower.as_mut_slice());
 }
 
 // Makes the residues, as the digits of a number, those of the number after it.

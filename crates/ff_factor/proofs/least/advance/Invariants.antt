@@ -5,6 +5,6 @@ use Rattle.ff_factor.proofs.least.advance.Given as goal
 abbrev pub invariant-loop-i : goal.invariant-loop-i
 invariant-loop-i l = record {
   size : length l.digits ≡ length l.initial.digits;
-  residues : All (λ x. x < l.p) l.digits;
-  number : number l.p l.digits + l.p ^ l.i ≡ number l.p l.initial.digits + 1;
+  residues : All (λ x. x < l.fn.p) l.digits;
+  number : number l.fn.p l.digits + l.fn.p ^ l.i ≡ number l.fn.p l.initial.digits + 1;
 }
