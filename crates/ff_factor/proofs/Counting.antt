@@ -28,9 +28,9 @@ first_digit : (p a x y : ℕ) → nat_cmp x y ≡ nat_cmp (x + p * a) (y + p * a
 first_digit p a x y = ⊎_elim
     (λ l. less x y l ∙ sym (less (x + p * a) (y + p * a) (omega arith)))
     (λ l. ⊎_elim
-        (λ e. ap (λ t. nat_cmp x t) (sym e) ∙ equal x ∙ sym (equal (x + p * a)) ∙ ap (λ t. nat_cmp (x + p * a) (t + p * a)) e)
-        (λ d. greater x y (omega arith) ∙ sym (greater (x + p * a) (y + p * a) (omega arith)))
-        (cases_eq x y))
+    (λ e. ap (λ t. nat_cmp x t) (sym e) ∙ equal x ∙ sym (equal (x + p * a)) ∙ ap (λ t. nat_cmp (x + p * a) (t + p * a)) e)
+    (λ d. greater x y (omega arith) ∙ sym (greater (x + p * a) (y + p * a) (omega arith)))
+    (cases_eq x y))
     (cases_lt x y)
 
 digits_compared : (p a b x y : ℕ) → x < p → y < p
@@ -38,11 +38,11 @@ digits_compared : (p a b x y : ℕ) → x < p → y < p
 digits_compared p a b x y lx ly = ⊎_elim
     (λ l. ap (λ t. ordering_then t (nat_cmp x y)) (less a b l) ∙ sym (less (x + p * a) (y + p * b) (digit_below p a b x y lx l)))
     (λ l. ⊎_elim
-        (λ e. ap (λ t. ordering_then t (nat_cmp x y)) (ap (λ t. nat_cmp a t) (sym e) ∙ equal a) ∙ first_digit p a x y
-        ∙ ap (λ t. nat_cmp (x + p * a) (y + p * t)) e)
-        (λ d. ap (λ t. ordering_then t (nat_cmp x y)) (greater a b (omega arith))
-        ∙ sym (greater (x + p * a) (y + p * b) (digit_below p b a y x ly (omega arith))))
-        (cases_eq a b))
+    (λ e. ap (λ t. ordering_then t (nat_cmp x y)) (ap (λ t. nat_cmp a t) (sym e) ∙ equal a) ∙ first_digit p a x y
+    ∙ ap (λ t. nat_cmp (x + p * a) (y + p * t)) e)
+    (λ d. ap (λ t. ordering_then t (nat_cmp x y)) (greater a b (omega arith))
+    ∙ sym (greater (x + p * a) (y + p * b) (digit_below p b a y x ly (omega arith))))
+    (cases_eq a b))
     (cases_lt a b)
 
 -- **the order of two lists of residues of one length is that of their numbers**
@@ -62,13 +62,14 @@ pub compared : (p : ℕ) (xs ys : List ℕ) → length xs ≡ length ys → All 
 compared p xs ys e v w h = ⊎_elim
     (λ l. l)
     (λ l. ⊎_elim
-        (λ s. absurd (contradiction (sym h ∙ order_of_numbers p xs ys e v w ∙ ap (λ t. nat_cmp (number p xs) t) (sym s) ∙ equal (number p xs))))
-        (λ d. absurd (contradiction₂ (sym h ∙ order_of_numbers p xs ys e v w ∙ greater (number p xs) (number p ys) (omega arith))))
-        (cases_eq (number p xs) (number p ys)))
+    (λ s. absurd (contradiction (sym h ∙ order_of_numbers p xs ys e v w ∙ ap (λ t. nat_cmp (number p xs) t) (sym s) ∙ equal (number p xs))))
+    (λ d. absurd (contradiction₂ (sym h ∙ order_of_numbers p xs ys e v w ∙ greater (number p xs) (number p ys) (omega arith))))
+    (cases_eq (number p xs) (number p ys)))
     (cases_lt (number p xs) (number p ys))
   where
     contradiction : Less ≡ Equal → ⊥
     contradiction e = cc
+
     contradiction₂ : Less ≡ Greater → ⊥
     contradiction₂ e = cc
 

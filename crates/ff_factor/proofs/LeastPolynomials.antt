@@ -122,11 +122,11 @@ module _ (p d : ℕ) (C : IsCharacteristic p) (l : 0 < d) where
     comes_after h m i e = ⊎_elim
         (λ below. absurd (none h m i e (before p h (candidate lower) same i.polynomial.0 own_residues below)))
         (λ above. ⊎_elim
-            (λ equal. absurd (reducible (subst (IsIrreducible (residues p))
-            (order_by_same nat_cmp_same h (candidate lower)
-            (same_number p h (candidate lower) same i.polynomial.0 own_residues equal)) i)))
-            (λ different. omega arith)
-            (cases_eq (number p h) (number p (candidate lower))))
+        (λ equal. absurd (reducible (subst (IsIrreducible (residues p))
+        (order_by_same nat_cmp_same h (candidate lower)
+        (same_number p h (candidate lower) same i.polynomial.0 own_residues equal)) i)))
+        (λ different. omega arith)
+        (cases_eq (number p h) (number p (candidate lower))))
         (cases_lt (number p h) (number p (candidate lower)))
       where
         same : length h ≡ length (candidate lower)

@@ -263,3 +263,72 @@ fn wrong_certificates(rt: HostRuntime) {
         Verdict::Reducible { .. } => assert!(rt; false),
     }
 }
+
+struct Least {
+    p: u32,
+    degree: u32,
+    // The coefficients from the constant one on; the others but the leading one are 0.
+    low: &'static [u8],
+}
+
+const LEAST: [Least; 9] = [
+    Least {
+        p: 2,
+        degree: 1,
+        low: &[0],
+    },
+    Least {
+        p: 2,
+        degree: 4,
+        low: &[1, 1],
+    },
+    Least {
+        p: 2,
+        degree: 24,
+        low: &[1, 1, 0, 1, 1],
+    },
+    Least {
+        p: 2,
+        degree: 48,
+        low: &[1, 0, 1, 1, 0, 1],
+    },
+    Least {
+        p: 3,
+        degree: 5,
+        low: &[1, 2],
+    },
+    Least {
+        p: 5,
+        degree: 48,
+        low: &[3, 2, 0, 1],
+    },
+    Least {
+        p: 31,
+        degree: 24,
+        low: &[30, 0, 1],
+    },
+    Least {
+        p: 47,
+        degree: 48,
+        low: &[13, 1],
+    },
+    Least {
+        p: 61,
+        degree: 48,
+        low: &[2],
+    },
+];
+
+// The values were found with PARI, by going through the polynomials in their order.
+#[test]
+fn least_irreducible_polynomials(rt: HostRuntime) {
+    for row in &LEAST {
+        assert!(rt; row.degree > 0 && row.degree <= 48 && row.low.len() <= 49);
+        let p = Prime::of(row.p).expect(&rt, "a characteristic");
+        let f = least_irreducible(p, row.degree);
+        let mut expected = [0u8; 49];
+        expected[..row.low.len()].copy_from_slice(row.low);
+        expected[row.degree as usize] = 1;
+        assert_eq!(rt; f.coefficients(), &expected[..row.degree as usize + 1]);
+    }
+}

@@ -14,11 +14,11 @@ loop-candidate-init c =
     record {
       size = ap length z ∙ length-replicate {A = ℕ} c.args.d 0;
       residues = subst (All (λ x. x < c.args.p)) (sym z) (All-replicate (λ x. x < c.args.p) c.args.d 0
-      (omega (arith, c.number-number.ensures.small, c.number-number.ensures.value)));
+          (omega (arith, c.number-number.ensures.small, c.number-number.ensures.value)));
       prime = c.monic-candidate.ensures.prime;
       coefficients = c.monic-candidate.ensures.coefficients ∙ ap candidate c.as_slice.ensures.value;
       none = subst (λ l. NoneBefore c.args.p c.args.d (candidate l)) (sym z)
-      (none_before_first c.args.p c.args.d c.number-number.ensures.whole c.requires.0);
+          (none_before_first c.args.p c.args.d c.number-number.ensures.whole c.requires.0);
     }
 
 pub is_irreducible-requires-clause-monic : goal.is_irreducible-requires-clause-monic
