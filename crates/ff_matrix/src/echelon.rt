@@ -10,6 +10,7 @@ ghost use Rattle.ff_matrix.specs.PrivateRows.{AreRows, IsAugmented};
 use crate::elimination::reduce;
 use crate::{Column, ColumnList, MAX_WIDTH, Matrix};
 use ff_poly::{MAX_DEGREE, Prime};
+use ff_residues::Sums;
 
 /// The reduced row echelon form of a matrix.
 #[derive(Drop)]
@@ -48,21 +49,26 @@ fn echelon_of<const W: usize>(m: &Matrix) -> Echelon
     requires room { length m.now.matrix.columns + m.now.matrix.rows ≤ W }
     ensures { IsEchelonOf m.now result }
 {
+    let p = m.prime();
+    let _number = p.number();
     let rows = m.rows();
-    let mut room = [[0; W]; MAX_DEGREE];
-    echelon_in(m, &mut room[..rows])
+    let zeros = blank_row::<W>();
+    let mut room = [zeros; MAX_DEGREE];
+    let mut sums = [Sums::of(p, &zeros); MAX_DEGREE];
+    echelon_in(m, &mut room[..rows], &mut sums[..rows])
 }
 
 // The same in these rows.
-fn echelon_in<const W: usize>(m: &Matrix, rows: &mut [[u8; W]]) -> Echelon
+fn echelon_in<const W: usize>(m: &Matrix, rows: &mut [[u8; W]], sums: &mut [Sums<W>]) -> Echelon
     requires width { W ≤ MAX_WIDTH }
     requires room { length m.now.matrix.columns + m.now.matrix.rows ≤ W }
     requires rows { length rows.old ≡ m.now.matrix.rows }
+    requires sums { length sums.old ≡ m.now.matrix.rows }
     ensures { IsEchelonOf m.now result }
 {
     let (p, columns) = (m.prime(), m.columns());
     augment(m, rows);
-    let pivots = reduce(p, rows, columns);
+    let pivots = reduce(p, rows, sums, columns);
     Echelon {
         form: block(p, rows, 0, columns),
         transform: block(p, rows, columns, rows.len()),
