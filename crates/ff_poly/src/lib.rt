@@ -13,13 +13,14 @@ mod places;
 mod polynomials;
 mod powers;
 mod products;
+mod rows;
 mod sums;
 #[cfg(test)]
 mod tests;
 
 pub use divisors::Bezout;
-pub use polynomials::Poly;
 pub use ff_residues::{CHARACTERISTICS, PRIMES, Prime, characteristics_in_order};
+pub use polynomials::Poly;
 
 /// The greatest degree of a field.
 pub const MAX_DEGREE: usize = 48;
