@@ -28,24 +28,27 @@ impl Matrix {
     pub fn echelon(&self) -> Echelon
         ensures { IsEchelonOf self.now result }
     {
-        let width = self.columns() + self.rows();
-        if width <= 16 {
-            echelon_of::<16>(self)
-        } else if width <= 32 {
-            echelon_of::<32>(self)
-        } else if width <= 48 {
-            echelon_of::<48>(self)
-        } else if width <= 64 {
-            echelon_of::<64>(self)
+        let rows = self.rows();
+        let width = self.columns() + rows;
+        if width <= 16 && rows <= 8 {
+            echelon_of::<16, 8>(self)
+        } else if width <= 32 && rows <= 16 {
+            echelon_of::<32, 16>(self)
+        } else if width <= 48 && rows <= 24 {
+            echelon_of::<48, 24>(self)
+        } else if width <= 64 && rows <= 32 {
+            echelon_of::<64, 32>(self)
         } else {
-            echelon_of::<MAX_WIDTH>(self)
+            echelon_of::<MAX_WIDTH, MAX_DEGREE>(self)
         }
     }
 }
 
-// The reduced row echelon form, worked out in rows of W numbers.
-fn echelon_of<const W: usize>(m: &Matrix) -> Echelon
+// The reduced row echelon form, worked out in at most N rows of W numbers.
+fn echelon_of<const W: usize, const N: usize>(m: &Matrix) -> Echelon
     requires width { W ≤ MAX_WIDTH }
+    requires height { N ≤ MAX_DEGREE }
+    requires rows { m.now.matrix.rows ≤ N }
     requires room { length m.now.matrix.columns + m.now.matrix.rows ≤ W }
     ensures { IsEchelonOf m.now result }
 {
@@ -53,8 +56,8 @@ fn echelon_of<const W: usize>(m: &Matrix) -> Echelon
     let _number = p.number();
     let rows = m.rows();
     let zeros = blank_row::<W>();
-    let mut room = [zeros; MAX_DEGREE];
-    let mut sums = [Sums::of(p, &zeros); MAX_DEGREE];
+    let mut room = [zeros; N];
+    let mut sums = [Sums::of(p, &zeros); N];
     echelon_in(m, &mut room[..rows], &mut sums[..rows])
 }
 
