@@ -8,7 +8,6 @@ use Rattle.alg_model.specs.Fields.{IsRing}
 use Rattle.alg_model.specs.Matrices.{Matrix, column_at, matrix_apply, matrix_product, identity_matrix, IsColumn, IsMatrix, IsIndependent, IsKernelBasis}
 use Rattle.alg_rings.proofs.Residues.{residues_ring}
 use Rattle.alg_linear.specs.PrivateGrids
-use Rattle.alg_linear.proofs.Grids
 use Rattle.alg_linear.proofs.Grids.{delta_same, delta_other}
 use Rattle.alg_linear.specs.PrivateGrids.{AreFree}
 use Rattle.alg_linear.proofs.Solutions.{rising_few}

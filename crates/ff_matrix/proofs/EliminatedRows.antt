@@ -11,8 +11,6 @@ use Rattle.alg_rings.proofs.Residues.{residues_ring}
 use Rattle.alg_rings.specs.Laws.{IsPropositional, RingLaws}
 use Rattle.alg_rings.proofs.Elements.{Element, element_ops, element_laws, underlying_injective}
 use Rattle.alg_linear.specs.PrivateGrids
-use Rattle.alg_linear.proofs.RowOperations
-use Rattle.alg_linear.proofs.RowReduction
 use Rattle.alg_linear.proofs.RowReduction.{reduced_same}
 use Rattle.alg_linear.proofs.Solutions.{transformed_from_augmented, transformed_same}
 use Rattle.alg_linear.proofs.CarrierMatrices.{delta_value}

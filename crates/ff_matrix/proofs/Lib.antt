@@ -2,3 +2,4 @@ pub mod RowPlaces
 pub mod EliminatedRows
 pub mod PivotPlaces
 pub mod EchelonConsequences
+pub mod ResidueRows

@@ -10,6 +10,7 @@ ghost use Rattle.ff_matrix.specs.PrivateRows.{AreRows, IsAugmented};
 use crate::elimination::reduce;
 use crate::{Column, ColumnList, MAX_WIDTH, Matrix};
 use ff_poly::{MAX_DEGREE, Prime};
+use ff_residues::Sums;
 
 /// The reduced row echelon form of a matrix.
 #[derive(Drop)]
@@ -27,42 +28,50 @@ impl Matrix {
     pub fn echelon(&self) -> Echelon
         ensures { IsEchelonOf self.now result }
     {
-        let width = self.columns() + self.rows();
-        if width <= 16 {
-            echelon_of::<16>(self)
-        } else if width <= 32 {
-            echelon_of::<32>(self)
-        } else if width <= 48 {
-            echelon_of::<48>(self)
-        } else if width <= 64 {
-            echelon_of::<64>(self)
+        let rows = self.rows();
+        let width = self.columns() + rows;
+        if width <= 16 && rows <= 8 {
+            echelon_of::<16, 8>(self)
+        } else if width <= 32 && rows <= 16 {
+            echelon_of::<32, 16>(self)
+        } else if width <= 48 && rows <= 24 {
+            echelon_of::<48, 24>(self)
+        } else if width <= 64 && rows <= 32 {
+            echelon_of::<64, 32>(self)
         } else {
-            echelon_of::<MAX_WIDTH>(self)
+            echelon_of::<MAX_WIDTH, MAX_DEGREE>(self)
         }
     }
 }
 
-// The reduced row echelon form, worked out in rows of W numbers.
-fn echelon_of<const W: usize>(m: &Matrix) -> Echelon
+// The reduced row echelon form, worked out in at most N rows of W numbers.
+fn echelon_of<const W: usize, const N: usize>(m: &Matrix) -> Echelon
     requires width { W ≤ MAX_WIDTH }
+    requires height { N ≤ MAX_DEGREE }
+    requires rows { m.now.matrix.rows ≤ N }
     requires room { length m.now.matrix.columns + m.now.matrix.rows ≤ W }
     ensures { IsEchelonOf m.now result }
 {
+    let p = m.prime();
+    let _number = p.number();
     let rows = m.rows();
-    let mut room = [[0; W]; MAX_DEGREE];
-    echelon_in(m, &mut room[..rows])
+    let zeros = blank_row::<W>();
+    let mut room = [zeros; N];
+    let mut sums = [Sums::of(p, &zeros); N];
+    echelon_in(m, &mut room[..rows], &mut sums[..rows])
 }
 
 // The same in these rows.
-fn echelon_in<const W: usize>(m: &Matrix, rows: &mut [[u8; W]]) -> Echelon
+fn echelon_in<const W: usize>(m: &Matrix, rows: &mut [[u8; W]], sums: &mut [Sums<W>]) -> Echelon
     requires width { W ≤ MAX_WIDTH }
     requires room { length m.now.matrix.columns + m.now.matrix.rows ≤ W }
     requires rows { length rows.old ≡ m.now.matrix.rows }
+    requires sums { length sums.old ≡ m.now.matrix.rows }
     ensures { IsEchelonOf m.now result }
 {
     let (p, columns) = (m.prime(), m.columns());
     augment(m, rows);
-    let pivots = reduce(p, rows, columns);
+    let pivots = reduce(p, rows, sums, columns);
     Echelon {
         form: block(p, rows, 0, columns),
         transform: block(p, rows, columns, rows.len()),

@@ -1,11 +1,14 @@
 //! Matrices over the residues modulo a prime.
 ghost use Rattle.std.specs.Prelude.{◌≡◌, ◌+◌, ◌<◌, ◌≤◌, length, map, All};
 ghost use Rattle.alg_model.specs.Coefficients.{residues, mod_ops};
+ghost use Rattle.alg_model.specs.Polynomials.{sum, scale};
+ghost use Rattle.ff_matrix.specs.PrivateRows.{residue_row};
 ghost use Rattle.alg_model.specs.Matrices.{entry, combination, matrix_apply, matrix_product, IsColumn};
 
-use crate::places::{add_multiple, zeros};
+use crate::places::row_of;
 use crate::{Column, ColumnList};
 use ff_poly::{MAX_DEGREE, Prime};
+use ff_residues::Sums;
 use std::marker::Model;
 
 /// A matrix over the residues modulo a prime, of at most `MAX_DEGREE` rows and columns.
@@ -151,21 +154,55 @@ fn apply_all(m: &Matrix, columns: &[Column]) -> ColumnList
     list
 }
 
-// The combination of columns of `rows` numbers with the coefficients c.
+// The combination of columns of `rows` numbers with the coefficients c, in rows as wide as they need.
 fn combine(p: Prime, rows: usize, columns: &[Column], c: &[u8]) -> Column
     requires rows { rows ≤ MAX_DEGREE }
     requires sizes { length columns.now ≡ length c.now }
     requires columns { All (IsColumn (residues p) rows) columns.now }
     requires residues { All (λ x. x < p) c.now }
-    requires positive { 0 < p }
     ensures value { result ≡ combination (mod_ops p) rows columns.now c.now }
     ensures column { IsColumn (residues p) rows result }
 {
-    let mut sum = zeros(rows);
+    if rows <= 16 {
+        combine_in::<16>(p, rows, columns, c)
+    } else if rows <= 32 {
+        combine_in::<32>(p, rows, columns, c)
+    } else {
+        combine_in::<MAX_DEGREE>(p, rows, columns, c)
+    }
+}
+
+// The same in sums of W numbers.
+fn combine_in<const W: usize>(p: Prime, rows: usize, columns: &[Column], c: &[u8]) -> Column
+    requires width { W ≤ MAX_DEGREE }
+    requires rows { rows ≤ W }
+    requires sizes { length columns.now ≡ length c.now }
+    requires columns { All (IsColumn (residues p) rows) columns.now }
+    requires residues { All (λ x. x < p) c.now }
+    ensures value { result ≡ combination (mod_ops p) rows columns.now c.now }
+    ensures column { IsColumn (residues p) rows result }
+{
+    let _number = p.number();
+    let mut sums = Sums::of(p, &row_of::<W>(p, &[]));
     let mut k = c.len();
     while k > 0 {
         k -= 1;
-        add_multiple(p, &mut sum, columns[k].numbers(), c[k]);
+        add_column(p, &mut sums, rows, columns[k].numbers(), c[k]);
     }
-    Column::of_slice(&sum)
+    Column::of_slice(&sums.row()[..rows])
+}
+
+// Adds the factor times a column of `rows` numbers.
+#[inline(always)]
+fn add_column<const W: usize>(p: Prime, sums: &mut Sums<W>, rows: usize, column: &[u8], factor: u8)
+    requires width { W ≤ MAX_DEGREE }
+    requires rows { rows ≤ W }
+    requires prime { sums.old.prime ≡ p }
+    requires column { IsColumn (residues p) rows column.now }
+    requires factor { factor < p }
+    ensures prime { sums.new.prime ≡ p }
+    ensures added { residue_row rows sums.new ≡ sum (mod_ops p) (scale (mod_ops p) factor column.now) (residue_row rows sums.old) }
+{
+    let _number = p.number();
+    sums.add(factor, &row_of::<W>(p, column), 0);
 }

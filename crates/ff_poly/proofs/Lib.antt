@@ -5,3 +5,5 @@ pub mod DerivativePlaces
 pub mod Euclid
 pub mod ExtendedEuclid
 pub mod PowersModulo
+pub mod SumPlaces
+pub mod EuclidRows

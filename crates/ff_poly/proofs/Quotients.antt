@@ -3,7 +3,7 @@ use Rattle.std.proofs.Common.{◌≡◌, ◌≢◌, ℕ, zero, suc, ◌+◌, ◌
 use Rattle.std.proofs.lemmas.Bool.{cases_lt, cases_eq}
 use Rattle.std.proofs.lemmas.List.{get_or_past, get_or-drop, get_or-set_same, get_or-set_other, drop-set}
 use Rattle.std.proofs.lemmas.List.Elements.{All-from_get_or}
-use Rattle.std.proofs.lemmas.Nat.{mul-mod_first, mul-mod_second, mul-le}
+use Rattle.std.proofs.lemmas.Nat.{mul-mod_first, mul-mod_second}
 use native.Mathlib.Nat.{mod-add-mod, add-mod-mod, mod-mod, mul_assoc, mul_comm, mul-one, mul-zero, add-zero, zero-add, zero-mod, add_assoc, add_comm, add-mul-mod_self_left}
 use Rattle.alg_model.specs.Coefficients.{mod_ops, residues}
 use Rattle.alg_model.specs.Polynomials.{sum, product, trim, poly_product, convolution}
@@ -16,7 +16,6 @@ use Rattle.alg_rings.proofs.ResidueFields.{residues_propositional}
 use Rattle.alg_rings.proofs.Validity.{place_valid}
 use Rattle.alg_rings.proofs.CarrierPolynomials.{sum_at}
 use Rattle.ff_poly.proofs.Convolutions.{convolution_nil}
-use Rattle.ff_poly.proofs.ListPlaces.{place_cases}
 
 -- the factor that takes the highest place away: x / l = (x % p) * i, where i is the inverse of l
 pub top_factor : (p x l i : ℕ) → 1 < p → (l * i) % p ≡ 1 → ((((x % p) * i) % p) * l) % p ≡ x % p
@@ -41,6 +40,14 @@ other_factor p t x y h =
 -- a factor may be taken modulo p
 pub negative_multiple : (p u x y : ℕ) → (x + u % p * y) % p ≡ (x + u * y) % p
 negative_multiple p u x y = sym (add-mod-mod x (u % p * y) p) ∙ ap (λ w. (x + w) % p) (mul-mod_first u y p) ∙ add-mod-mod x (u * y) p
+
+-- where t * y is x, nothing is left of x
+pub multiple_gone : (p t x y : ℕ) → t ≤ p → (t * y) % p ≡ x % p → (x + (p - t) * y) % p ≡ 0
+multiple_gone p t x y h e =
+    let whole : t * y + (p - t) * y ≡ 0 + p * y = let q : p - t + t ≡ p = omega arith in
+    let r : t * y + (p - t) * y ≡ (p - t + t) * y = omega arith in r ∙ ap (λ w. w * y) q ∙ sym (zero-add (p * y)) in
+    sym (mod-add-mod x p ((p - t) * y)) ∙ ap (λ w. (w + (p - t) * y) % p) (sym e) ∙ mod-add-mod (t * y) p ((p - t) * y)
+    ∙ ap (λ w. w % p) whole ∙ add-mul-mod_self_left 0 p y ∙ zero-mod p
 
 sum_step : (p y n c r : ℕ) → (y + n) % p ≡ r % p → (y + c + n) % p ≡ (c + r) % p
 sum_step p y n c r e =

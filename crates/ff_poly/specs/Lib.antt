@@ -1,2 +1,3 @@
 pub mod Polynomial
 pub mod PrivateDivisors
+pub mod PrivateSums

@@ -1,12 +1,15 @@
 //! Greatest common divisors, and how they combine two polynomials.
-ghost use Rattle.std.specs.Prelude.{◌≡◌, ◌≢◌, ℕ, ◌+◌, ◌-◌, ◌<◌, ◌≤◌, max, List, [], ◌∷◌, length};
+ghost use Rattle.std.specs.Prelude.{◌≡◌, ◌≢◌, ℕ, ◌+◌, ◌-◌, ◌<◌, ◌≤◌, max, List, [], ◌∷◌, length, take, All};
 ghost use Rattle.alg_model.specs.Coefficients.{mod_ops, residues};
 ghost use Rattle.alg_model.specs.Polynomials.{trim, poly_sum, poly_difference, poly_product, leading};
-ghost use Rattle.alg_model.specs.Factors.{IsDivision, IsGreatestCommonDivisor};
-ghost use Rattle.ff_poly.specs.PrivateDivisors.{IsNormalizer};
+ghost use Rattle.alg_model.specs.Factors.{IsPolynomial, IsDivision, IsGreatestCommonDivisor};
+ghost use Rattle.ff_poly.specs.PrivateDivisors.{IsNormalizer, IsRowOf};
 ghost use Rattle.ff_poly.specs.Polynomial.{IsPoly};
 
-use crate::{MAX_POLY, Poly};
+use crate::division::divide;
+use crate::polynomials::trimmed_len;
+use crate::rows::{blank_row, row_of};
+use crate::{MAX_POLY, Poly, Prime};
 
 /// The greatest common divisor `g` of two polynomials `a` and `b`, with `u * a + w * b = g`.
 #[derive(Drop)]
@@ -31,14 +34,7 @@ impl Poly {
         ensures gcd { IsGreatestCommonDivisor (residues self.now.prime) self.now.coefficients b.now.coefficients
             result.coefficients }
     {
-        let mut first = self.copy();
-        let mut second = b.copy();
-        'euclid: while !second.is_zero() {
-            let (_, rest) = first.divrem(&second);
-            first = second;
-            second = rest;
-        }
-        first.made_monic()
+        gcd_of(self.prime(), self.coefficients(), b.coefficients())
     }
 
     /// The greatest common divisor of this as `a` and of `b`, and how they combine to it: `u * a + w * b = g`.
@@ -103,6 +99,81 @@ impl Poly {
         let inverse = p.inv(coefficients[coefficients.len() - 1]);
         Poly::trimmed(p, &[inverse])
     }
+}
+
+// The greatest common divisor of the polynomials with these coefficients, in rows as wide as the longer.
+fn gcd_of(p: Prime, a: &[u8], b: &[u8]) -> Poly
+    requires room { (length a.now ≤ MAX_POLY) × (length b.now ≤ MAX_POLY) }
+    requires first { IsPolynomial (residues p) a.now }
+    requires second { IsPolynomial (residues p) b.now }
+    ensures prime { result.prime ≡ p }
+    ensures gcd { IsGreatestCommonDivisor (residues p) a.now b.now result.coefficients }
+{
+    let len = a.len().max(b.len());
+    if len <= 16 {
+        gcd_in::<16, 32>(p, a, b)
+    } else if len <= 32 {
+        gcd_in::<32, 64>(p, a, b)
+    } else if len <= 64 {
+        gcd_in::<64, 128>(p, a, b)
+    } else {
+        gcd_in::<128, 256>(p, a, b)
+    }
+}
+
+// The same in two rows of W numbers.
+fn gcd_in<const W: usize, const D: usize>(p: Prime, a: &[u8], b: &[u8]) -> Poly
+    requires width { W ≤ MAX_POLY }
+    requires sizes { D ≡ W + W }
+    requires room { (length a.now ≤ W) × (length b.now ≤ W) }
+    requires first { IsPolynomial (residues p) a.now }
+    requires second { IsPolynomial (residues p) b.now }
+    ensures prime { result.prime ≡ p }
+    ensures gcd { IsGreatestCommonDivisor (residues p) a.now b.now result.coefficients }
+{
+    let _number = p.number();
+    let mut first = row_of::<W>(a);
+    let mut second = row_of::<W>(b);
+    let (mut m, mut n) = (a.len(), b.len());
+    'euclid: while n > 0 {
+        let rest = remainder::<W, D>(p, &first, m, &second, n);
+        first = second;
+        m = n;
+        n = trimmed_len(&rest);
+        second = rest;
+    }
+    Poly::trimmed(p, &first).made_monic()
+}
+
+// The remainder of the first polynomial, of m coefficients, by the second, of n.
+#[inline(always)]
+fn remainder<const W: usize, const D: usize>(
+    p: Prime,
+    first: &[u8; W],
+    m: usize,
+    second: &[u8; W],
+    n: usize,
+) -> [u8; W]
+    requires width { W ≤ MAX_POLY }
+    requires sizes { D ≡ W + W }
+    requires first { IsRowOf W p first.now m }
+    requires second { IsRowOf W p second.now n }
+    requires not_zero { 0 < n }
+    ensures len { length result ≡ W }
+    ensures residues { All (λ x. x < p) result }
+    ensures division { (q : List ℕ) × IsDivision (residues p) (take m first.now) (take n second.now) q (trim (mod_ops p) result) }
+{
+    let _number = p.number();
+    let mut rest = *first;
+    let mut quotient = blank_row::<W>();
+    divide::<W, D>(
+        p,
+        &mut rest,
+        &mut quotient,
+        &second[..n],
+        (m + 1).saturating_sub(n),
+    );
+    rest
 }
 
 impl Bezout {

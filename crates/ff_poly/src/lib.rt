@@ -13,6 +13,7 @@ mod places;
 mod polynomials;
 mod powers;
 mod products;
+mod rows;
 mod sums;
 #[cfg(test)]
 mod tests;

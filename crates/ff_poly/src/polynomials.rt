@@ -131,7 +131,7 @@ fn are_residues(p: Prime, c: &[u8]) -> bool
 }
 
 // How many coefficients are left without the zeros at the end.
-fn trimmed_len(c: &[u8]) -> usize
+pub(crate) fn trimmed_len(c: &[u8]) -> usize
     ensures fits { result ≤ length c.now }
     ensures trimmed { (p : ℕ) → take result c.now ≡ trim (mod_ops p) c.now }
 {

@@ -1,24 +1,15 @@
-use Rattle.std.proofs.Common.{◌≡◌, ℕ, length, ap, subst, arith}
-use Rattle.ff_matrix.specs.PrivateRows.{Eliminates}
-use Rattle.ff_matrix.proofs.RowPlaces.{eliminates_start}
+use Rattle.std.proofs.Common.{List, ℕ, sym, subst, arith}
+use Rattle.ff_matrix.specs.PrivateRows.{AreRows, Eliminates, residue_rows}
+use Rattle.ff_matrix.proofs.ResidueRows.{sums_are_rows}
 use Rattle.ff_matrix.proofs.elimination.reduce.Goals as goal
 
-pub loop-column-init : goal.loop-column-init
-loop-column-init g c = record {
-  residues = c.requires.residues;
-  few = omega (arith, ap length c.of_slice-pivots.ensures);
-  reduced = rw c.of_slice-pivots.ensures (eliminates_start g.row.W c.args.p c.args.rows.now c.requires.residues);
-}
-
-pub loop-column-preserved : goal.loop-column-preserved
-loop-column-preserved g c = record {
-  residues = c.reduce_column.ensures.rows;
-  few = c.reduce_column.ensures.pivots;
-  reduced = c.reduce_column.ensures.reduced c.args.rows.now c.loop-column.invariant.reduced;
-}
+pub returns-clause-rows : goal.returns-clause-rows
+returns-clause-rows g c =
+    subst (AreRows g.row.W c.args.p) (sym c.narrow_rows.ensures.same)
+    (sums_are_rows g.row.W c.args.p c.reduce_sums-pivots.new.rows (omega (arith, c.number-number.ensures.small, c.number-number.ensures.value)) c.reduce_sums-pivots.ensures.sums)
 
 pub returns-clause-reduced : goal.returns-clause-reduced
 returns-clause-reduced g c =
-    let done : c.loop-column.column ≡ c.args.columns = omega arith in
-    let P : ℕ → Type 0 = λ k. Eliminates g.row.W c.args.p k c.args.rows.now c.loop-column.rows c.loop-column.pivots in
-    subst P done c.loop-column.invariant.reduced
+    let E : List (List ℕ) → List (List ℕ) → Type 0 = λ old new. Eliminates g.row.W c.args.p c.args.columns old new c.reduce_sums-pivots.result in
+    subst (E c.args.rows.now) (sym c.narrow_rows.ensures.same)
+    (subst (λ old. E old (residue_rows g.row.W c.reduce_sums-pivots.new.rows)) c.widen_rows.ensures.same c.reduce_sums-pivots.ensures.reduced)

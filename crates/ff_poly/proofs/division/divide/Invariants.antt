@@ -1,8 +1,14 @@
+use Rattle.std.proofs.Common.{◌≡◌, length}
+use Rattle.ff_poly.specs.PrivateSums.{residue_row}
 use Rattle.ff_poly.proofs.Quotients.{Divided}
 use Rattle.ff_poly.proofs.division.divide.Given as goal
 
 abbrev pub invariant-loop-at : goal.invariant-loop-at
-invariant-loop-at l = Divided l.p l.degree l.steps l.at l.quotient l.d l.rest l.initial.rest
+invariant-loop-at g l = record {
+  prime : l.sums.prime ≡ l.p;
+  long : length l.quotient ≡ g.row.W;
+  divided : Divided l.p l.degree l.steps l.at l.quotient l.d (residue_row g.row.W l.sums) l.initial.rest;
+}
 
 abbrev pub decreases-loop-at : goal.decreases-loop-at
-decreases-loop-at l = l.at
+decreases-loop-at g l = l.at

@@ -1,4 +1,4 @@
-use Rattle.std.proofs.Common.{◌≡◌, ℕ, ◌%◌, ◌<◌, slice_index, ap, sym, ◌∙◌, arith, mod-eq_of_lt}
+use Rattle.std.proofs.Common.{◌≡◌, ℕ, ◌%◌, slice_index, ap, sym, ◌∙◌, arith, mod-eq_of_lt}
 use Rattle.alg_model.specs.Coefficients.{mod_ops}
 use Rattle.alg_rings.proofs.Residues.{zero_test}
 use Rattle.alg_rings.proofs.Trims.{trim_at, trim_same}

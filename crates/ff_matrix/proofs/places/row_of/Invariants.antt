@@ -1,0 +1,9 @@
+use Rattle.std.proofs.Common.{◌≡◌, ℕ, ◌<◌, ◌≤◌, length, slice_index}
+use Rattle.ff_matrix.proofs.places.row_of.Given as goal
+
+abbrev pub invariant-loop-i : goal.invariant-loop-i
+invariant-loop-i g l = record {
+  len : length l.row ≡ g.row.W;
+  done : (k : ℕ) → k < l.i → slice_index l.row k ≡ slice_index l.c k;
+  rest : (k : ℕ) → l.i ≤ k → slice_index l.row k ≡ 0;
+}
