@@ -1,1 +1,2 @@
 pub mod FieldCarriers
+pub mod ValuePlaces
