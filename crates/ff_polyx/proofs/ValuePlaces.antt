@@ -1,11 +1,13 @@
 -- Lists of elements of a ring by their places, zero past the end: what sums, products and divisions
 -- do place by place.
 use Rattle.std.proofs.Common.{◌≡◌, ◌≢◌, ℕ, zero, suc, ◌+◌, ◌-◌, ◌<◌, ◌≤◌, List, [], ◌∷◌, ◌++◌, length, slice_index_or, take, drop, set, replicate, All, refl, ap, ap₂, sym, ◌∙◌, subst, arith, ⊎_elim, length-take, get_or-take}
+use Rattle.std.proofs.Math.Seq.{take-append_seam}
 use Rattle.std.proofs.lemmas.Bool.{cases_lt, cases_eq}
 use Rattle.std.proofs.lemmas.List.{get_or_past, get_or-set_same, get_or-set_other, get_or-replicate, length-replicate, drop_more}
 use Rattle.std.proofs.lemmas.List.Elements.{All-nil, All-take, All-drop, All-append, All-replicate, All-set}
+use Rattle.std.specs.List.{refill}
 use Rattle.alg_model.specs.Coefficients.{Ops, Carrier}
-use Rattle.alg_model.specs.Polynomials.{sum, poly_sum, scale, shift, product, trim, leading}
+use Rattle.alg_model.specs.Polynomials.{sum, poly_sum, poly_negative, scale, shift, product, trim, leading}
 use Rattle.alg_model.specs.Factors.{IsPolynomial}
 use Rattle.alg_model.specs.Fields.{IsRing}
 use Rattle.alg_rings.specs.Laws.{RingLaws, IsPropositional}
@@ -15,13 +17,19 @@ use Rattle.alg_rings.proofs.Trims.{leading_at}
 use Rattle.alg_rings.proofs.Elements.{underlying, underlying_injective, element_ops, element_laws}
 use Rattle.alg_rings.proofs.Validity.{place_valid, sum_valid, scale_valid, shift_valid, product_valid}
 use Rattle.alg_rings.proofs.LongDivision.{IsStep, division_step}
-use Rattle.alg_rings.proofs.CarrierPolynomials.{trim_same, trimmed_from_leading, sum_at, scale_at, trim_sum_first, trim_product_first}
+use Rattle.alg_rings.proofs.CarrierPolynomials.{trim_same, trimmed_from_leading, sum_at, scale_at, negatives_at, trim_sum_first, trim_product_first}
 
 -- a place stands before i, or at i + j
 pub place_cases : (P : ℕ → Type 0) (i k : ℕ) → (k < i → P k) → ((j : ℕ) → P (i + j)) → P k
 place_cases P i k below above =
     ⊎_elim below (λ h. let e : i + (k - i) ≡ k = omega arith in subst P e (above (k - i)))
     (cases_lt k i)
+
+-- a slice that was written whole
+pub refill_whole : {A : Type 0} (xs ws : List A) → length ws ≡ length xs
+    → refill (length xs) xs ws ≡ ws
+refill_whole xs ws e =
+    ap (λ n. take n (ws ++ drop (length ws) xs)) (sym e) ∙ take-append_seam ws (drop (length ws) xs)
 
 -- what an index reads, whatever stands past the end
 pub indexed : {A : Type 0} (xs : List A) (k : ℕ) (x d : A) → k < length xs
@@ -73,6 +81,14 @@ module _ {A : Type 0} {c : Carrier A} (P : IsPropositional c) (R : IsRing c) whe
   pub negative_multiple : (t y : A) → c.Valid t → c.Valid y → neg t ⊗ y ≡ neg (t ⊗ y)
   negative_multiple t y vt vy =
       ap (underlying c) (Rings.neg_mul (element_laws P R) (t, vt) (y, vy))
+
+  -- multiples by -1 are the negatives
+  pub negated : (g : List A) (k : ℕ) → All c.Valid g
+      → neg I ⊗ slice_index_or g k O ≡ slice_index_or (poly_negative c.ops g) k O
+  negated g k vg =
+      ap (underlying c) (Rings.neg_one_mul (element_laws P R)
+      (slice_index_or g k O, place_valid R g k vg))
+      ∙ sym (negatives_at P R g k vg)
 
   -- a multiple of zero adds nothing
   pub unchanged : (x t : A) → c.Valid x → c.Valid t → x ⊕ t ⊗ O ≡ x

@@ -1,4 +1,4 @@
-use Rattle.std.proofs.Common.{sym, subst}
+use Rattle.std.proofs.Common.{sym, ◌∙◌, subst}
 use Rattle.alg_model.specs.Factors.{IsPolynomial}
 use Rattle.alg_model.specs.Maps.{field_values}
 use Rattle.alg_rings.proofs.CarrierPolynomials.{trim_polynomial}
