@@ -96,6 +96,13 @@ module _ {A : Type 0} {c : Carrier A} (P : IsPropositional c) (R : IsRing c) whe
       ap (λ w. x ⊕ w) (ap (underlying c) (Rings.mul_zero (element_laws P R) (t, vt)))
       ∙ ap (underlying c) (Rings.add_zero (element_laws P R) (x, vx))
 
+  -- the last coefficient, as an index reads it
+  pub last_read : (f g : List A) (x : A) → g ≡ f → 0 < length g
+      → x ≡ slice_index_or g (length g - 1) x → leading c.ops f ≡ x
+  last_read f g x e l r =
+      leading_at c.ops f ∙ ap (λ xs. slice_index_or xs (length xs - 1) O) (sym e)
+      ∙ indexed g (length g - 1) x O (omega arith) r
+
   -- zeros after a list change no place
   pub padded_at : (xs : List A) (n k : ℕ)
       → slice_index_or (xs ++ replicate n O) k O ≡ slice_index_or xs k O

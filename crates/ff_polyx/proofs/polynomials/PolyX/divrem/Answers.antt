@@ -30,24 +30,18 @@ divide-requires-clause-rest c =
     (padded_valid (propositional K) (ring K c.prime-prime.ensures.whole) f (length f - length f)
     (subst (All v.Valid) (sym c.coefficients-dividend.ensures.value) c.requires.dividend.0))
 
-quotient_places : (c : goal.After-as_slice) → c.as_slice.result.now ≡ c.divide.new.quotient
-quotient_places c = c.as_slice.ensures.value
-    ∙ refill_whole c.padded-quotient.result.items c.divide.new.quotient
-    (c.divide.ensures.quotient_len ∙ ap length c.as_mut_slice-2.ensures.value)
-
-rest_places : (c : goal.After-as_slice-2) → c.as_slice-2.result.now ≡ c.divide.new.rest
-rest_places c = c.as_slice-2.ensures.value
-    ∙ refill_whole c.padded-rest.result.items c.divide.new.rest
-    (c.divide.ensures.rest_len ∙ ap length c.as_mut_slice.ensures.value)
-
 pub of_values-requires-clause-values : goal.of_values-requires-clause-values
 of_values-requires-clause-values c =
-    subst (All (field_values c.args.field.now).Valid) (sym (quotient_places c))
+    subst (All (field_values c.args.field.now).Valid) (sym (c.as_slice.ensures.value
+    ∙ refill_whole c.padded-quotient.result.items c.divide.new.quotient
+    (c.divide.ensures.quotient_len ∙ ap length c.as_mut_slice-2.ensures.value)))
     c.divide.ensures.quotient
 
 pub of_values-requires-2-clause-values : goal.of_values-requires-2-clause-values
 of_values-requires-2-clause-values c =
-    subst (All (field_values c.args.field.now).Valid) (sym (rest_places c)) c.divide.ensures.rest
+    subst (All (field_values c.args.field.now).Valid) (sym (c.as_slice-2.ensures.value
+    ∙ refill_whole c.padded-rest.result.items c.divide.new.rest
+    (c.divide.ensures.rest_len ∙ ap length c.as_mut_slice.ensures.value))) c.divide.ensures.rest
 
 pub returns : goal.returns
 returns c =
@@ -69,8 +63,12 @@ returns c =
         ∙ trim_padded P R f (length f - length f) vf in
     let divided = division_from_places P R f g q r c.divide.ensures.quotient c.divide.ensures.rest vg
         (length_not_nil g (λ z. c.requires.not_zero (sym eg ∙ z))) whole c.divide.ensures.smaller in
-    let eq = c.of_values.ensures.coefficients ∙ ap (trim o) (quotient_places c) in
-    let er = c.of_values-2.ensures.coefficients ∙ ap (trim o) (rest_places c) in
+    let eq = c.of_values.ensures.coefficients ∙ ap (trim o) (c.as_slice.ensures.value
+    ∙ refill_whole c.padded-quotient.result.items c.divide.new.quotient
+    (c.divide.ensures.quotient_len ∙ ap length c.as_mut_slice-2.ensures.value)) in
+    let er = c.of_values-2.ensures.coefficients ∙ ap (trim o) (c.as_slice-2.ensures.value
+    ∙ refill_whole c.padded-rest.result.items c.divide.new.rest
+    (c.divide.ensures.rest_len ∙ ap length c.as_mut_slice.ensures.value)) in
     record {
       division = subst (λ x. IsDivision v x c.args.d.now c.of_values.result c.of_values-2.result) ef
           (subst (λ y. IsDivision v f y c.of_values.result c.of_values-2.result) eg
