@@ -1,2 +1,3 @@
 pub mod FieldCarriers
 pub mod ValuePlaces
+pub mod ImageLists

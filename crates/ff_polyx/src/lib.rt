@@ -6,6 +6,7 @@
 mod division;
 mod divisors;
 mod evaluation;
+mod images;
 mod places;
 mod polynomials;
 mod powers;
