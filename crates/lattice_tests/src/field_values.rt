@@ -225,8 +225,8 @@ fn monic(rt: &impl Abort, p: u32, c: &[u8]) -> Poly
     f
 }
 
-// The field with this characteristic and this polynomial.
-fn field_of(rt: &impl Abort, p: u32, c: &[u8]) -> Field {
+/// The field with this characteristic and this polynomial.
+pub(crate) fn field_of(rt: &impl Abort, p: u32, c: &[u8]) -> Field {
     let f = monic(rt, p, c);
     match judge(&f) {
         Verdict::Irreducible(_) => Field::new(f),
@@ -237,8 +237,8 @@ fn field_of(rt: &impl Abort, p: u32, c: &[u8]) -> Field {
     }
 }
 
-// The value with these digits.
-fn value_of(rt: &impl Abort, field: &Field, c: &[u8]) -> Value
+/// The value with these digits.
+pub(crate) fn value_of(rt: &impl Abort, field: &Field, c: &[u8]) -> Value
     ensures { (field_values field.now).Valid result }
 {
     Value::of_slice(field, c).expect(rt, "digits")

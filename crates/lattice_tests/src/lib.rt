@@ -4,6 +4,8 @@
 #[cfg(test)]
 mod comparisons;
 #[cfg(test)]
+mod field_polynomials;
+#[cfg(test)]
 mod field_values;
 #[cfg(test)]
 mod hand_examples;

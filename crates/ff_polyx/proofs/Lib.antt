@@ -1,0 +1,3 @@
+pub mod FieldCarriers
+pub mod ValuePlaces
+pub mod ImageLists
