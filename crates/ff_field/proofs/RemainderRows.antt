@@ -1,10 +1,11 @@
 -- Remainders by a monic f of degree n, place by place: c + x g has the remainder c + x r less a
 -- multiple of f, so that the remainder of g is the sum of its coefficients times the remainders of
 -- the powers of x.
-use Rattle.std.proofs.Common.{◌≡◌, ◌≢◌, ℕ, zero, suc, ◌+◌, ◌-◌, ◌*◌, ◌%◌, ◌<◌, ◌≤◌, List, [], ◌∷◌, ◌++◌, length, take, replicate, slice_index, All, refl, ap, ap₂, sym, ◌∙◌, arith, ⊎_elim, get_or-take, mod-eq_of_lt}
+use Rattle.std.proofs.Common.{◌≡◌, ◌≢◌, ℕ, zero, suc, ◌+◌, ◌-◌, ◌*◌, ◌%◌, ◌<◌, ◌≤◌, List, [], ◌∷◌, ◌++◌, length, take, replicate, slice_index, slice_index_or, slice_set, All, refl, ap, ap₂, sym, ◌∙◌, arith, length-take, get_or-take, mod-eq_of_lt, ⊎_elim}
+use Rattle.std.proofs.lemmas.List.{length-replicate, length-set, get_or-set_same, get_or-set_other}
 use Rattle.std.proofs.lemmas.Bool.{cases_eq, cases_lt}
 use Rattle.std.proofs.lemmas.Nat.{mul-mod_first, mul-mod_second}
-use Rattle.std.proofs.lemmas.List.Elements.{All-head, All-tail, All-get_or}
+use Rattle.std.proofs.lemmas.List.Elements.{All-head, All-tail, All-set, All-from_get_or}
 use Rattle.std.proofs.Math.Nat.{add-mul-mod_self_left}
 use native.Mathlib.Nat.{mod-add-mod, add-mod-mod, mod-mod, zero-mod, mul-zero, zero-mul, add-zero, zero-add, mul-one, one-mul}
 use Rattle.alg_model.specs.Coefficients.{mod_ops, residues}
@@ -12,9 +13,10 @@ use Rattle.alg_model.specs.Polynomials.{sum, scale}
 use Rattle.alg_model.specs.Values.{degree, times_x, remainder}
 use Rattle.alg_rings.proofs.Lists
 use Rattle.alg_fields.proofs.ListRemainders.{zeros_at, length_remainder}
-use Rattle.ff_residues.specs.SumRows.{sum_below}
+use Rattle.ff_poly.specs.declared.TheConstants.{MAX_DEGREE}
+use Rattle.ff_residues.specs.SumRows.{sum_below, IsRowOf}
 use Rattle.ff_residues.proofs.SumsBelow.{add_agree, mul_agree, sum_same, sum_agree, sum_first, sum_split, sum_single}
-use Rattle.ff_field.specs.PrivateTables.{first_place, place_before, times_x_place, power_place}
+use Rattle.ff_field.specs.PrivateTables.{first_place, place_before, times_x_place, power_place, IsTable}
 
 -- a place of a sum, where both lists have it
 sum_at_both : (p : ℕ) (f g : List ℕ) (k : ℕ) → k < length f → k < length g
@@ -119,7 +121,7 @@ module _ (p : ℕ) (f : List ℕ) where
   before_zero r h (suc k) = h k
 
   steps_zero : (m : ℕ) (r : ℕ → ℕ) → ((k : ℕ) → r k ≡ 0) → (k : ℕ) → steps m r k ≡ 0
-  steps_zero zero r h = h
+  steps_zero zero r h k = h k
   steps_zero (suc m) r h k =
       ap₂ (λ u v. u + (p - 1) * v * slice_index f k)
       (before_zero (steps m r) (steps_zero m r h) k) (steps_zero m r h (n - 1))
@@ -180,3 +182,153 @@ module _ (p : ℕ) (f : List ℕ) where
         cons_at : (r : List ℕ) (k : ℕ) → slice_index (0 ∷ r) k ≡ place_before (slice_index r) k
         cons_at r zero = refl
         cons_at r (suc k) = refl
+
+    -- **the remainder of c + x g**
+    remainder_at : (c : ℕ) (g : List ℕ) → slice_index (remainder (mod_ops p) f g) (degree f - 1) < p
+        → (k : ℕ) → k < degree f → slice_index (remainder (mod_ops p) f (c ∷ g)) k
+        ≡ (c * first_place k + times_x_place p f (slice_index (remainder (mod_ops p) f g)) k) % p
+    remainder_at c g small k l =
+        let o = mod_ops p in
+        let r = remainder o f g in
+        let e : length r ≡ n = length_remainder o f not_constant g in
+        let first = c ∷ replicate (n - 1) 0 in
+        sum_at_both p first (times_x o f r) k (omega (arith, length-replicate {A = ℕ} (n - 1) 0))
+        (omega (arith, length_times_x r e))
+        ∙ add_agree p (slice_index first k) (slice_index (times_x o f r) k)
+        (c * first_place k) (times_x_place p f (slice_index r) k)
+        (ap (λ w. w % p) (constant_at c (n - 1) k))
+        (ap (λ w. w % p) (times_x_at r e small k l) ∙ mod-mod (times_x_place p f (slice_index r) k) p)
+      where
+        length_times_x : (r : List ℕ) → length r ≡ n → length (times_x (mod_ops p) f r) ≡ n
+        length_times_x r e =
+            let t = (p - slice_index r (n - 1)) % p in
+            let whole = sum (mod_ops p) (0 ∷ r) (scale (mod_ops p) t f) in
+            length-take n whole
+            ∙ omega (arith, Lists.length_sum (mod_ops p) (0 ∷ r) (scale (mod_ops p) t f),
+            Lists.length_scale (mod_ops p) t f)
+
+    module _ (reduced : (g : List ℕ) → All (λ a. a < p) g → (k : ℕ)
+        → slice_index (remainder (mod_ops p) f g) k < p) where
+      -- the sum of the coefficients times the remainders of the powers of x
+      shifted_remainder : (g : List ℕ) → All (λ a. a < p) g → (m k : ℕ) → k < degree f
+          → steps m (slice_index (remainder (mod_ops p) f g)) k % p
+          ≡ sum_below (length g) (λ i. slice_index g i * steps (m + i) first_place k) % p
+      shifted_remainder [] v m k l =
+          ap (λ w. w % p) (steps_zero m (slice_index (replicate n 0)) (zeros_at 0 n) k)
+      shifted_remainder (c ∷ g) v m k l =
+          let vg = All-tail (λ a. a < p) c g v in
+          let r = slice_index (remainder (mod_ops p) f g) in
+          let whole : (j : ℕ) → ℕ = λ j. c * first_place j + step r j in
+          steps_agree m (slice_index (remainder (mod_ops p) f (c ∷ g))) whole
+          (λ j h. ap (λ w. w % p) (remainder_at c g (reduced g vg (n - 1)) j h) ∙ mod-mod (whole j) p) k l
+          ∙ ap (λ w. w % p) (steps_linear m c first_place (step r) whole (λ j. refl) k)
+          ∙ add_agree p (c * steps m first_place k) (steps m (step r) k)
+          (c * steps (m + 0) first_place k)
+          (sum_below (length g) (λ i. slice_index g i * steps (m + suc i) first_place k))
+          (ap (λ i. (c * steps i first_place k) % p) (sym (add-zero m)))
+          (ap (λ w. w % p) (steps_of_step m r k) ∙ shifted_remainder g vg (suc m) k l
+          ∙ ap (λ w. w % p) (sum_same (length g) (λ i. slice_index g i * steps (suc m + i) first_place k)
+          (λ i. slice_index g i * steps (m + suc i) first_place k)
+          (λ i h. let e : suc m + i ≡ m + suc i = omega arith in
+          ap (λ j. slice_index g i * steps j first_place k) e)))
+          ∙ ap (λ w. w % p) (sym (sum_first (length g)
+          (λ i. slice_index (c ∷ g) i * steps (m + i) first_place k)))
+
+      -- **the remainder by kept rows**: n coefficients stay, and each later one adds a multiple of
+      -- the remainder of its power of x
+      pub remainder_by_rows : (g : List ℕ) → All (λ a. a < p) g → (m : ℕ) → length g ≡ degree f + m
+          → (k : ℕ) → k < degree f → slice_index (remainder (mod_ops p) f g) k
+          ≡ (slice_index g k + sum_below m
+          (λ j. slice_index g (degree f + j) * power_place p f (degree f + j) k)) % p
+      remainder_by_rows g v m e k l =
+          let term : (i : ℕ) → ℕ = λ i. slice_index g i * steps i first_place k in
+          let unit : (i : ℕ) → i ≢ k → i < n → term i ≡ 0 =
+          λ i d h. ap (λ w. slice_index g i * w) (sym (power_steps i k)
+          ∙ (power_unit i h).1 k (λ s. d (sym s))) ∙ mul-zero (slice_index g i) in
+          sym (mod-eq_of_lt (reduced g v k))
+          ∙ shifted_remainder g v 0 k l
+          ∙ ap (λ w. w % p) (sum_same (length g) (λ i. slice_index g i * steps (0 + i) first_place k) term
+          (λ i h. ap (λ j. slice_index g i * steps j first_place k) (zero-add i))
+          ∙ ap (λ i. sum_below i term) e ∙ sum_split n m term
+          ∙ ap₂ ◌+◌ (sum_single n k term l unit
+          ∙ ap (λ w. slice_index g k * w) (sym (power_steps k k) ∙ (power_unit k l).0)
+          ∙ mul-one (slice_index g k))
+          (sum_same m (λ j. term (n + j))
+          (λ j. slice_index g (n + j) * power_place p f (n + j) k)
+          (λ j h. ap (λ w. slice_index g (n + j) * w) (sym (power_steps (n + j) k)))))
+
+-- one place of a step, reduced
+pub reduced_step : (p : ℕ) (f : List ℕ) (r : ℕ → ℕ) (k : ℕ) → r (length f - 1 - 1) < p
+    → (place_before r k + (p - r (length f - 1 - 1)) % p * slice_index f k) % p
+    ≡ times_x_place p f r k % p
+reduced_step p f r k l =
+    let t = r (length f - 1 - 1) in
+    let y = slice_index f k in
+    add_agree p (place_before r k) ((p - t) % p * y) (place_before r k) ((p - 1) * t * y) refl
+    (negative_product p t y l)
+
+-- ---- tables
+-- one row more
+pub one_row : (p n i : ℕ) (place : ℕ → ℕ → ℕ) (table : List (List ℕ)) (row : List ℕ)
+    → i < MAX_DEGREE → IsRowOf p MAX_DEGREE row
+    → ((k : ℕ) → k < n → slice_index row k ≡ place i k % p) → IsTable p n i place table
+    → IsTable p n (i + 1) place (slice_set table i row)
+one_row p n i place table row within residues is T = record {
+  count = length-set table i row ∙ T.count;
+  rows = All-set (IsRowOf p MAX_DEGREE) table i row residues T.rows;
+  places = λ j k l m. ⊎_elim
+      (λ e. ap (λ r. slice_index r k)
+      (ap (λ j. slice_index_or (slice_set table i row) j []) e
+      ∙ get_or-set_same table i row [] (omega (arith, T.count)))
+      ∙ is k m ∙ ap (λ j. place j k % p) (sym e))
+      (λ d. ap (λ r. slice_index r k) (get_or-set_other table i j row [] d)
+      ∙ T.places j k (omega arith) m)
+      (cases_eq j i);
+}
+
+-- no row yet
+pub no_rows : (p n : ℕ) (place : ℕ → ℕ → ℕ) (table : List (List ℕ)) → length table ≡ MAX_DEGREE
+    → All (IsRowOf p MAX_DEGREE) table → IsTable p n 0 place table
+no_rows p n place table long rows =
+    record { count = long; rows = rows; places = λ i k l m. absurd (omega arith) }
+
+-- x^(n - 1) is its own remainder
+pub last_unit_row : (p : ℕ) (f : List ℕ) (row : List ℕ) → 1 < p → 1 < length f
+    → slice_index row (degree f - 1) ≡ 1
+    → ((k : ℕ) → k < degree f - 1 → slice_index row k ≡ 0)
+    → (k : ℕ) → k < degree f → slice_index row k ≡ power_place p f (degree f - 1 + 0) k % p
+last_unit_row p f row above not_constant one others k l =
+    let m = degree f - 1 in
+    let u = power_unit p f m (omega arith) in
+    let same : m + 0 ≡ m = omega arith in
+    ⊎_elim
+    (λ e. ap (slice_index row) e ∙ one ∙ sym (mod-eq_of_lt above)
+    ∙ ap (λ w. w % p) (sym u.0 ∙ ap (power_place p f m) (sym e))
+    ∙ ap (λ i. power_place p f i k % p) (sym same))
+    (λ d. others k (omega arith) ∙ sym (zero-mod p) ∙ ap (λ w. w % p) (sym (u.1 k d))
+    ∙ ap (λ i. power_place p f i k % p) (sym same))
+    (cases_eq k m)
+
+-- the next row
+pub next_row : (p : ℕ) (f row next : List ℕ) (i : ℕ) → 1 < length f
+    → ((k : ℕ) → k < degree f → slice_index row k ≡ power_place p f (degree f - 1 + i) k % p)
+    → ((k : ℕ) → k < length f - 1
+    → slice_index next k ≡ times_x_place p f (slice_index row) k % p)
+    → (j : ℕ) → j ≡ degree f + i
+    → (k : ℕ) → k < degree f → slice_index next k ≡ power_place p f j k % p
+next_row p f row next i not_constant is made j e k l =
+    let before = power_place p f (degree f - 1 + i) in
+    let same : suc (degree f - 1 + i) ≡ j = omega arith in
+    made k l
+    ∙ step_agree p f (slice_index row) before
+    (λ k m. ap (λ w. w % p) (is k m) ∙ mod-mod (before k) p) k l
+    ∙ ap (λ i. power_place p f i k % p) same
+
+-- a row of zeros
+pub zeros_row : (p : ℕ) (row : List ℕ) → 0 < p → length row ≡ MAX_DEGREE
+    → ((k : ℕ) → slice_index row k ≡ 0) → IsRowOf p MAX_DEGREE row
+zeros_row p row positive long blank = record {
+  wide = omega (arith, long);
+  residues = All-from_get_or (λ x. x < p) row 0
+      (λ i l. let e : slice_index row i ≡ 0 = blank i in omega (arith, e));
+}

@@ -9,6 +9,8 @@
 use Rattle.std.specs.Prelude.{◌≡◌, ℕ, zero, suc, ◌+◌, ◌-◌, ◌*◌, ◌%◌, ◌<◌, List, [], length, slice_index, slice_index_or, All}
 use Rattle.alg_model.specs.Values.{degree}
 use Rattle.ff_residues.specs.SumRows.{IsRowOf}
+use Rattle.alg_model.specs.Maps.{Field}
+use Rattle.ff_field.specs.SmallFields.{IsSmallField}
 use Rattle.ff_poly.specs.declared.TheConstants.{MAX_DEGREE}
 
 abbrev pub first_place : ℕ → ℕ
@@ -31,3 +33,11 @@ pub record IsTable (p n m : ℕ) (place : ℕ → ℕ → ℕ) (table : List (Li
   pub rows : All (IsRowOf p MAX_DEGREE) table
   pub places : (i k : ℕ) → i < m → k < n
       → slice_index (slice_index_or table i []) k ≡ place i k % p
+
+-- the rows that a field keeps: the remainders of x^n, x^(n + 1), .., x^(2 n - 2)
+abbrev pub IsRowTable : ℕ → List ℕ → List (List ℕ) → Type 0
+IsRowTable p f = IsTable p (degree f) (degree f - 1) (λ i. power_place p f (degree f + i))
+
+pub record IsModulus (K : Field) (rows : List (List ℕ)) : Type 0 where
+  pub small : IsSmallField K
+  pub rows_are : IsRowTable K.characteristic K.polynomial rows

@@ -54,11 +54,11 @@ sum_cut m n f h = sum_split m n f
     ∙ add-zero (sum_below m f)
 
 -- members that are zero but for one
-pub sum_single : (n k : ℕ) (f : ℕ → ℕ) → k < n → ((i : ℕ) → i ≢ k → f i ≡ 0) → sum_below n f ≡ f k
+pub sum_single : (n k : ℕ) (f : ℕ → ℕ) → k < n → ((i : ℕ) → i ≢ k → i < n → f i ≡ 0) → sum_below n f ≡ f k
 sum_single zero k f l h = absurd (omega arith)
 sum_single (suc n) k f l h = ⊎_elim
-    (λ e. ap₂ ◌+◌ (sum_zero n f (λ i m. h i (omega arith))) (ap f (sym e)) ∙ zero-add (f k))
-    (λ d. ap₂ ◌+◌ (sum_single n k f (omega arith) h) (h n (λ e. d (sym e))) ∙ add-zero (f k))
+    (λ e. ap₂ ◌+◌ (sum_zero n f (λ i m. h i (omega arith) (omega arith))) (ap f (sym e)) ∙ zero-add (f k))
+    (λ d. ap₂ ◌+◌ (sum_single n k f (omega arith) (λ i e m. h i e (omega arith))) (h n (λ e. d (sym e)) (omega arith)) ∙ add-zero (f k))
     (cases_eq k n)
 
 -- sums of sums

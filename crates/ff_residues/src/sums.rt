@@ -3,7 +3,7 @@ ghost use Rattle.std.specs.Prelude.{◌≡◌, ℕ, ◌+◌, ◌-◌, ◌*◌, �
 ghost use Rattle.alg_model.specs.Coefficients.{IsCharacteristic};
 ghost use Rattle.ff_residues.specs.SumRows.{residue_at, row_sum, shifted_sum, IsSumRow, IsRowOf};
 
-use crate::places::{add_products, narrowed, reduce_all, widened};
+use crate::places::{add_products, blank_sums, narrowed, reduce_all, widened};
 use crate::{MAX_WIDTH, Prime};
 use std::marker::Model;
 
@@ -43,6 +43,21 @@ impl<const W: usize> Sums<W> {
             prime: p,
             room: p.run(),
             sums: widened(row),
+        }
+    }
+
+    /// `W` zeros.
+    #[inline(always)]
+    pub fn zeros(p: Prime) -> Sums<W>
+        requires { W ≤ MAX_WIDTH }
+        ensures prime { result.prime ≡ p }
+        ensures residues { (k : ℕ) → residue_at result k ≡ 0 }
+    {
+        let _number = p.number();
+        Sums {
+            prime: p,
+            room: p.run(),
+            sums: blank_sums(),
         }
     }
 

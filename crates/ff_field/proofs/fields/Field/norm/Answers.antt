@@ -1,7 +1,7 @@
 use Rattle.std.proofs.Common.{slice_index, ap, ◌∙◌}
 use Rattle.alg_model.specs.Maps.{constant}
 use Rattle.alg_model.specs.Conjugates.{norm}
-use Rattle.alg_galois.proofs.FieldTraces.{norm_in_prime_field}
+use Rattle.alg_galois.proofs.FieldTraces.{prime_traces}
 use Rattle.ff_field.proofs.SmallFieldLaws.{lowest_digit}
 use Rattle.ff_field.proofs.fields.Field.norm.Goals as goal
 
@@ -12,4 +12,4 @@ returns-clause-value c =
     let a = c.args.a.now in
     ap (λ xs. constant K (slice_index xs 0))
     (c.digits.ensures.value ∙ c.product_of_conjugates-product.ensures.value)
-    ∙ lowest_digit K W (norm K a) (norm_in_prime_field K W a c.requires)
+    ∙ lowest_digit K W (norm K a) (let (t, e) = (prime_traces K W).norm_is_image a c.requires in (t.0, t.1, e))

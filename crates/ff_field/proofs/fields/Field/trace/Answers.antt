@@ -1,7 +1,7 @@
 use Rattle.std.proofs.Common.{slice_index, ap, ◌∙◌}
 use Rattle.alg_model.specs.Maps.{constant}
 use Rattle.alg_model.specs.Conjugates.{trace}
-use Rattle.alg_galois.proofs.FieldTraces.{trace_in_prime_field}
+use Rattle.alg_galois.proofs.FieldTraces.{prime_traces}
 use Rattle.ff_field.proofs.SmallFieldLaws.{lowest_digit}
 use Rattle.ff_field.proofs.fields.Field.trace.Goals as goal
 
@@ -12,4 +12,4 @@ returns-clause-value c =
     let a = c.args.a.now in
     ap (λ xs. constant K (slice_index xs 0))
     (c.digits.ensures.value ∙ c.sum_of_conjugates-sum.ensures.value)
-    ∙ lowest_digit K W (trace K a) (trace_in_prime_field K W a c.requires)
+    ∙ lowest_digit K W (trace K a) (let (t, e) = (prime_traces K W).trace_is_image a c.requires in (t.0, t.1, e))
