@@ -81,7 +81,7 @@ impl Field {
         ensures value { result ≡ (field_values self.now).ops.mul a.now b.now }
         ensures valid { (field_values self.now).Valid result }
     {
-        self.reduced(&self.poly_of(a).mul(&self.poly_of(b)))
+        self.modulus().mul(a, b)
     }
 
     // The polynomial with the digits of a value as coefficients.

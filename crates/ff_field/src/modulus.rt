@@ -103,7 +103,8 @@ impl Modulus {
     pub(crate) fn mul(&self, a: &Value, b: &Value) -> Value
         requires first { (field_values self.now).Valid a.now }
         requires second { (field_values self.now).Valid b.now }
-        ensures { result ≡ (field_values self.now).ops.mul a.now b.now }
+        ensures value { result ≡ (field_values self.now).ops.mul a.now b.now }
+        ensures valid { (field_values self.now).Valid result }
     {
         let n = self.degree();
         if n <= 8 {
@@ -127,7 +128,8 @@ impl Modulus {
         requires fits { degree_of self.now ≤ W }
         requires first { (field_values self.now).Valid a.now }
         requires second { (field_values self.now).Valid b.now }
-        ensures { result ≡ (field_values self.now).ops.mul a.now b.now }
+        ensures value { result ≡ (field_values self.now).ops.mul a.now b.now }
+        ensures valid { (field_values self.now).Valid result }
     {
         let n = self.degree() as usize;
         let row = self.product_row::<W>(a.digits(), b.digits());

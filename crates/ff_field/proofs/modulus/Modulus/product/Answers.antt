@@ -3,8 +3,8 @@ use Rattle.alg_model.specs.Maps.{field_values, degree_of}
 use Rattle.ff_field.proofs.RowProducts.{value_of_places, product_of_valid}
 use Rattle.ff_field.proofs.modulus.Modulus.product.Goals as goal
 
-pub returns : goal.returns
-returns g c =
+pub returns-clause-value : goal.returns-clause-value
+returns-clause-value g c =
     let K = c.args.self.now in
     let W = c.degree-n.ensures.whole.finite in
     let a = c.args.a.now in
@@ -17,3 +17,8 @@ returns g c =
     (omega (arith, c.product_row-row.ensures.len, c.requires.fits))
     (λ k l. c.product_row-row.ensures.places k l
     ∙ ap₂ (λ x y. slice_index ((field_values K).ops.mul x y) k) c.digits.ensures.value c.digits-2.ensures.value)
+
+pub returns-clause-valid : goal.returns-clause-valid
+returns-clause-valid g c = subst (field_values c.args.self.now).Valid (sym (returns-clause-value g c))
+    (product_of_valid c.args.self.now c.degree-n.ensures.whole.finite c.args.a.now c.args.b.now
+    c.requires.first c.requires.second)
