@@ -1,13 +1,15 @@
 //! The polynomial of a field, with what takes the place of divisions by it.
 ghost use Rattle.std.specs.Prelude.{◌≡◌, ℕ, ◌+◌, ◌-◌, ◌*◌, ◌%◌, ◌<◌, ◌≤◌, All, length, slice_index};
-ghost use Rattle.alg_model.specs.Coefficients.{residues};
+ghost use Rattle.alg_model.specs.Coefficients.{mod_ops, residues};
 ghost use Rattle.alg_model.specs.Factors.{IsMonic, IsIrreducible};
-ghost use Rattle.alg_model.specs.Maps.{field_values, degree_of};
+ghost use Rattle.alg_model.specs.Values.{remainder};
+ghost use Rattle.alg_model.specs.Maps.{field_values, generator, degree_of};
 ghost use Rattle.ff_field.specs.SmallFields.{IsSmallField};
 ghost use Rattle.ff_field.specs.PrivateTables.{IsRowTable};
 ghost use Rattle.ff_residues.specs.SumRows.{residue_at, shifted_sum};
 
 use crate::Value;
+use crate::arithmetic::poly_of;
 use crate::tables::{SPAN, power_rows, zeros};
 use ff_poly::{MAX_DEGREE, Poly, Prime};
 use ff_residues::Sums;
@@ -97,6 +99,34 @@ impl Modulus {
             polynomial: self.polynomial.copy(),
             rows: self.rows,
         }
+    }
+
+    // One.
+    pub(crate) fn one(&self) -> Value
+        ensures value { result ≡ (field_values self.now).ops.one }
+        ensures valid { (field_values self.now).Valid result }
+    {
+        let _number = self.prime().number();
+        Value::padded(&[1], self.degree() as usize)
+    }
+
+    // The generator: the class of x.
+    pub(crate) fn generator(&self) -> Value
+        ensures value { result ≡ generator self.now }
+        ensures valid { (field_values self.now).Valid result }
+    {
+        self.reduced(&poly_of(self.prime(), &[0, 1]))
+    }
+
+    // The value of a polynomial: its remainder by that of the field.
+    pub(crate) fn reduced(&self, g: &Poly) -> Value
+        requires { g.now.prime ≡ self.now.characteristic }
+        ensures value { result ≡ remainder (mod_ops self.now.characteristic) self.now.polynomial
+            g.now.coefficients }
+        ensures valid { (field_values self.now).Valid result }
+    {
+        let (_, rest) = g.divrem(self.poly());
+        Value::padded(rest.coefficients(), self.degree() as usize)
     }
 
     // The product of values, in the width that serves.
