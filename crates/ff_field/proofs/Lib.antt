@@ -1,2 +1,4 @@
 pub mod Reductions
+pub mod RemainderRows
+pub mod RowProducts
 pub mod SmallFieldLaws

@@ -1,2 +1,3 @@
+pub mod PrivateTables
 pub mod SmallFields
 pub mod Theorems

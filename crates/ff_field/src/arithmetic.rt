@@ -32,7 +32,7 @@ impl Field {
         ensures value { result ≡ generator self.now }
         ensures valid { (field_values self.now).Valid result }
     {
-        self.reduced(&poly_of(self.prime(), &[0, 1]))
+        self.modulus().generator()
     }
 
     /// A residue as a value of the field: the constant.
@@ -81,7 +81,7 @@ impl Field {
         ensures value { result ≡ (field_values self.now).ops.mul a.now b.now }
         ensures valid { (field_values self.now).Valid result }
     {
-        self.reduced(&self.poly_of(a).mul(&self.poly_of(b)))
+        self.modulus().mul(a, b)
     }
 
     // The polynomial with the digits of a value as coefficients.
@@ -103,13 +103,12 @@ impl Field {
             g.now.coefficients }
         ensures valid { (field_values self.now).Valid result }
     {
-        let (_, rest) = g.divrem(self.poly());
-        Value::padded(rest.coefficients(), self.degree() as usize)
+        self.modulus().reduced(g)
     }
 }
 
 // The polynomial with these coefficients, lowest first; zeros at the end are dropped.
-fn poly_of(p: Prime, c: &[u8]) -> Poly
+pub(crate) fn poly_of(p: Prime, c: &[u8]) -> Poly
     requires room { length c.now ≤ MAX_POLY }
     requires residues { All (λ x. x < p) c.now }
     ensures prime { result.prime ≡ p }

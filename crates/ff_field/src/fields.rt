@@ -5,6 +5,7 @@ ghost use Rattle.alg_model.specs.Factors.{IsMonic, IsIrreducible};
 ghost use Rattle.alg_model.specs.Maps.{degree_of};
 ghost use Rattle.ff_field.specs.SmallFields.{IsSmallField};
 
+use crate::modulus::Modulus;
 use ff_poly::{MAX_DEGREE, Poly, Prime};
 use std::marker::Model;
 
@@ -12,7 +13,7 @@ use std::marker::Model;
 /// polynomial of degree 1 to `MAX_DEGREE` (Lidl and Niederreiter, Finite Fields, chapter 2).
 #[derive(Drop)]
 pub struct Field {
-    polynomial: Poly,
+    modulus: Modulus,
 }
 
 impl Model for Field {
@@ -21,15 +22,9 @@ impl Model for Field {
 
     ghost Value = { maps.Field };
 
-    ghost view = { λ a. record {
-      characteristic = a.polynomial.prime;
-      polynomial = a.polynomial.coefficients;
-    } };
+    ghost view = { λ a. a.modulus };
 
-    ghost invariant = { λ a. IsSmallField (record {
-      characteristic = a.polynomial.prime;
-      polynomial = a.polynomial.coefficients;
-    }) };
+    ghost invariant = { λ a. IsSmallField a.modulus };
 }
 
 impl Field {
@@ -43,8 +38,9 @@ impl Field {
         ensures polynomial { result.polynomial ≡ f.coefficients }
         ensures whole { IsSmallField result }
     {
-        let _prime = f.prime();
-        Field { polynomial: f }
+        Field {
+            modulus: Modulus::new(f),
+        }
     }
 
     /// The characteristic.
@@ -52,7 +48,7 @@ impl Field {
         ensures value { result ≡ self.now.characteristic }
         ensures whole { IsSmallField self.now }
     {
-        self.polynomial.prime()
+        self.modulus.prime()
     }
 
     /// The polynomial, whose degree is that of the field.
@@ -61,7 +57,7 @@ impl Field {
         ensures coefficients { result.now.coefficients ≡ self.now.polynomial }
         ensures whole { IsSmallField self.now }
     {
-        &self.polynomial
+        self.modulus.poly()
     }
 
     /// The degree over the prime field: how many digits a value has.
@@ -70,7 +66,14 @@ impl Field {
         ensures positive { 0 < result }
         ensures whole { IsSmallField self.now }
     {
-        (self.polynomial.coefficients().len() - 1) as u32
+        self.modulus.degree()
+    }
+
+    // The polynomial, with what takes the place of divisions by it.
+    pub(crate) fn modulus(&self) -> &Modulus
+        ensures { result.now ≡ self.now }
+    {
+        &self.modulus
     }
 
     /// An equal field.
@@ -79,7 +82,7 @@ impl Field {
         ensures whole { IsSmallField self.now }
     {
         Field {
-            polynomial: self.polynomial.copy(),
+            modulus: self.modulus.copy(),
         }
     }
 }

@@ -10,7 +10,9 @@ mod conjugates;
 mod fields;
 mod inverses;
 mod laws;
+mod modulus;
 mod powers;
+mod tables;
 mod values;
 
 pub use fields::Field;

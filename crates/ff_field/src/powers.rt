@@ -3,14 +3,35 @@ ghost use Rattle.std.specs.Prelude.{◌≡◌, ◌/◌};
 ghost use Rattle.alg_model.specs.Coefficients.{power};
 ghost use Rattle.alg_model.specs.Maps.{field_values};
 
+use crate::modulus::Modulus;
 use crate::{Field, Value};
 
 impl Field {
     /// The power `a^e`; it is one for `e = 0`.
-    ///
-    /// By squaring, from the highest binary digit of `e` down (Knuth, The Art of Computer
-    /// Programming 2, section 4.6.3).
     pub fn pow(&self, a: &Value, e: u64) -> Value
+        requires { (field_values self.now).Valid a.now }
+        ensures value { result ≡ power (field_values self.now).ops a.now e }
+        ensures valid { (field_values self.now).Valid result }
+    {
+        self.modulus().pow(a, e)
+    }
+
+    /// Frobenius: the power `a^p` for the characteristic `p`.
+    pub fn frob(&self, a: &Value) -> Value
+        requires { (field_values self.now).Valid a.now }
+        ensures value { result ≡ power (field_values self.now).ops a.now self.now.characteristic }
+        ensures valid { (field_values self.now).Valid result }
+    {
+        self.pow(a, self.prime().number() as u64)
+    }
+}
+
+impl Modulus {
+    // The power `a^e`; it is one for `e = 0`.
+    //
+    // By squaring, from the highest binary digit of `e` down (Knuth, The Art of Computer
+    // Programming 2, section 4.6.3).
+    pub(crate) fn pow(&self, a: &Value, e: u64) -> Value
         requires { (field_values self.now).Valid a.now }
         ensures value { result ≡ power (field_values self.now).ops a.now e }
         ensures valid { (field_values self.now).Valid result }
@@ -26,14 +47,5 @@ impl Field {
         } else {
             square
         }
-    }
-
-    /// Frobenius: the power `a^p` for the characteristic `p`.
-    pub fn frob(&self, a: &Value) -> Value
-        requires { (field_values self.now).Valid a.now }
-        ensures value { result ≡ power (field_values self.now).ops a.now self.now.characteristic }
-        ensures valid { (field_values self.now).Valid result }
-    {
-        self.pow(a, self.prime().number() as u64)
     }
 }

@@ -3,3 +3,4 @@ pub mod Reciprocals
 pub mod ResidueLists
 pub mod ChangedPlaces
 pub mod SumRows
+pub mod SumsBelow

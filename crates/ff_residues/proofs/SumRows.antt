@@ -1,5 +1,8 @@
 -- What is kept when products are added to sums below 2^15.
-use Rattle.std.proofs.Common.{◌≡◌, ℕ, ◌+◌, ◌-◌, ◌*◌, ◌%◌, ◌<◌, ◌≤◌, ap, sym, ◌∙◌, arith}
+use Rattle.std.proofs.Common.{◌≡◌, ℕ, suc, ◌+◌, ◌-◌, ◌*◌, ◌%◌, ◌<◌, ◌≤◌, List, [], length, slice_index_or, All, ap, sym, ◌∙◌, arith}
+use Rattle.std.proofs.lemmas.List.Elements.{All-get_or}
+use native.Mathlib.Nat.{mod-add-mod, mod-mod, add-zero, add_assoc}
+use Rattle.ff_residues.specs.SumRows.{sum_below, IsRowOf}
 use Rattle.std.proofs.lemmas.Nat.{mod_below}
 use Rattle.std.proofs.Math.Nat.{mul-le-mul_right}
 use Rattle.ff_residues.proofs.ResidueLists.{product_below}
@@ -28,3 +31,21 @@ pub less_room : (p room z s : ℕ) → z ≡ 0 → s + room * ((p - 1) * (p - 1)
 less_room p room z s zero fits =
     let h : (room - 1) * ((p - 1) * (p - 1)) ≤ room * ((p - 1) * (p - 1)) = mul-le-mul_right ((p - 1) * (p - 1)) (omega arith) in
     omega (arith, h)
+
+-- ---- sums of many products
+-- nothing is added yet
+pub none_added : (p a : ℕ) → a % p ≡ (a % p + 0) % p
+none_added p a = sym (ap (λ w. w % p) (add-zero (a % p)) ∙ mod-mod a p)
+
+-- one product more
+pub one_added : (p a i : ℕ) (f : ℕ → ℕ) (r t : ℕ) → r ≡ (a + sum_below i f) % p → t ≡ (r + f i) % p
+    → t ≡ (a + sum_below (i + 1) f) % p
+one_added p a i f r t e h =
+    let next : suc i ≡ i + 1 = omega arith in
+    h ∙ ap (λ w. (w + f i) % p) e ∙ mod-add-mod (a + sum_below i f) p (f i)
+    ∙ ap (λ w. w % p) (add_assoc a (sum_below i f) (f i) ∙ ap (λ n. a + sum_below n f) next)
+
+-- a row among rows
+pub row_at : (p w : ℕ) (rows : List (List ℕ)) (i : ℕ) → i < length rows → All (IsRowOf p w) rows
+    → IsRowOf p w (slice_index_or rows i [])
+row_at p w rows i l v = All-get_or (IsRowOf p w) rows i [] l v

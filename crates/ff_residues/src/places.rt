@@ -15,7 +15,7 @@ pub(crate) fn blank_row<const W: usize>() -> [u8; W]
 
 // W zeros as sums.
 #[inline(always)]
-fn blank_sums<const W: usize>() -> [u16; W]
+pub(crate) fn blank_sums<const W: usize>() -> [u16; W]
     requires { W ≤ MAX_WIDTH }
     ensures len { length result ≡ W }
     ensures blank { (k : ℕ) → slice_index result k ≡ 0 }

@@ -1,9 +1,9 @@
 //! Rows of residues to which multiples of rows are added, and which are reduced late.
 ghost use Rattle.std.specs.Prelude.{◌≡◌, ℕ, ◌+◌, ◌-◌, ◌*◌, ◌%◌, ◌^◌, ◌<◌, ◌≤◌, All, length, slice_index};
 ghost use Rattle.alg_model.specs.Coefficients.{IsCharacteristic};
-ghost use Rattle.ff_residues.specs.SumRows.{residue_at, IsSumRow};
+ghost use Rattle.ff_residues.specs.SumRows.{residue_at, row_sum, shifted_sum, IsSumRow, IsRowOf};
 
-use crate::places::{add_products, narrowed, reduce_all, widened};
+use crate::places::{add_products, blank_sums, narrowed, reduce_all, widened};
 use crate::{MAX_WIDTH, Prime};
 use std::marker::Model;
 
@@ -46,6 +46,21 @@ impl<const W: usize> Sums<W> {
         }
     }
 
+    /// `W` zeros.
+    #[inline(always)]
+    pub fn zeros(p: Prime) -> Sums<W>
+        requires { W ≤ MAX_WIDTH }
+        ensures prime { result.prime ≡ p }
+        ensures residues { (k : ℕ) → residue_at result k ≡ 0 }
+    {
+        let _number = p.number();
+        Sums {
+            prime: p,
+            room: p.run(),
+            sums: blank_sums(),
+        }
+    }
+
     /// Adds `factor` times the `W` residues of a list that stand from `start` on.
     #[inline(always)]
     pub fn add(&mut self, factor: u8, list: &[u8], start: usize)
@@ -59,6 +74,40 @@ impl<const W: usize> Sums<W> {
     {
         self.make_room();
         self.add_in_room(factor, list, start);
+    }
+
+    /// Adds rows, each times its factor: a matrix times the vector of the factors.
+    #[inline(always)]
+    pub fn add_rows<const R: usize>(&mut self, factors: &[u8], rows: &[[u8; R]])
+        requires width { W ≤ MAX_WIDTH }
+        requires factors { All (λ x. x < self.old.prime) factors.now }
+        requires enough { length factors.now ≤ length rows.now }
+        requires rows { All (IsRowOf self.old.prime W) rows.now }
+        ensures prime { self.new.prime ≡ self.old.prime }
+        ensures sums { (k : ℕ) → k < W → residue_at self.new k
+            ≡ (residue_at self.old k + row_sum (length factors.now) factors.now rows.now k) % self.old.prime }
+    {
+        for i in 0..factors.len() {
+            self.add(factors[i], &rows[i], 0);
+        }
+    }
+
+    /// Adds the `W` residues of a list that stand from `start` on times the first factor, those that stand one place before
+    /// times the second, and so on.
+    #[inline(always)]
+    pub fn add_shifted(&mut self, factors: &[u8], list: &[u8], start: usize)
+        requires width { W ≤ MAX_WIDTH }
+        requires factors { All (λ x. x < self.old.prime) factors.now }
+        requires before { length factors.now ≤ start + 1 }
+        requires within { start + W ≤ length list.now }
+        requires residues { All (λ x. x < self.old.prime) list.now }
+        ensures prime { self.new.prime ≡ self.old.prime }
+        ensures sums { (k : ℕ) → k < W → residue_at self.new k
+            ≡ (residue_at self.old k + shifted_sum (length factors.now) factors.now list.now (start + k)) % self.old.prime }
+    {
+        for i in 0..factors.len() {
+            self.add(factors[i], list, start - i);
+        }
     }
 
     // The same where there is room for one product more.

@@ -68,3 +68,21 @@ fn sums(rt: HostRuntime) {
     assert_eq!(rt; sums.row(), [52, 7, 52, 52, 52, 52, 52, 52]);
     assert_eq!(rt; (sums.at(0), sums.at(1)), (52, 7));
 }
+
+// By hand: 1 + 3 * 1 + 60 * 60 = 3,604 = 61 * 59 + 5, and so on.
+#[test]
+fn rows_of_sums(rt: HostRuntime) {
+    let p = Prime::of(61).expect(&rt, "a characteristic");
+    let mut sums = Sums::of(p, &[1; 4]);
+    sums.add_rows(&[3, 60], &[[1, 2, 3, 4], [60, 1, 0, 5]]);
+    assert_eq!(rt; sums.row(), [5, 6, 10, 8]);
+}
+
+// By hand: 1 + 2 * 7 + 3 * 5 = 30, and so on.
+#[test]
+fn shifted_sums(rt: HostRuntime) {
+    let p = Prime::of(61).expect(&rt, "a characteristic");
+    let mut sums = Sums::of(p, &[1; 4]);
+    sums.add_shifted(&[2, 3], &[5, 7, 11, 13, 0], 1);
+    assert_eq!(rt; sums.row(), [30, 44, 60, 40]);
+}

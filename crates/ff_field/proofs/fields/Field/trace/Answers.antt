@@ -10,7 +10,6 @@ returns-clause-value c =
     let K = c.args.self.now in
     let W = c.degree-degree.ensures.whole.finite in
     let a = c.args.a.now in
-    let (b, s) = (prime_traces K W).trace_is_image a c.requires in
     ap (λ xs. constant K (slice_index xs 0))
     (c.digits.ensures.value ∙ c.sum_of_conjugates-sum.ensures.value)
-    ∙ lowest_digit K W (trace K a) (b.0, b.1, s)
+    ∙ lowest_digit K W (trace K a) (let (t, e) = (prime_traces K W).trace_is_image a c.requires in (t.0, t.1, e))

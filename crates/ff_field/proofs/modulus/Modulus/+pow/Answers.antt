@@ -1,7 +1,7 @@
 use Rattle.std.proofs.Common.{ap, ap₂, sym, ◌∙◌}
 use Rattle.alg_model.specs.Maps.{field_values}
 use Rattle.ff_field.proofs.SmallFieldLaws.{power_of_odd, power_of_even}
-use Rattle.ff_field.proofs.fields.Field.+pow.Goals as goal
+use Rattle.ff_field.proofs.modulus.Modulus.+pow.Goals as goal
 
 pub returns-then-e-eq1-clause-value : goal.returns-then-e-eq1-clause-value
 returns-then-e-eq1-clause-value t c =

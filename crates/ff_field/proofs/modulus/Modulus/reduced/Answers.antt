@@ -3,7 +3,7 @@ use Rattle.alg_model.specs.Coefficients.{residues}
 use Rattle.alg_model.specs.Factors.{IsPolynomial, IsDivision}
 use Rattle.alg_model.specs.Maps.{field_values}
 use Rattle.ff_field.proofs.SmallFieldLaws.{padded_rest, remainder_valid}
-use Rattle.ff_field.proofs.fields.Field.reduced.Goals as goal
+use Rattle.ff_field.proofs.modulus.Modulus.reduced.Goals as goal
 
 pub returns-clause-value : goal.returns-clause-value
 returns-clause-value c =
