@@ -1,10 +1,12 @@
--- Berlekamp's criterion as a certificate: f of degree n is irreducible if it is coprime to its derivative, and the map
--- v -> v^p - v on the polynomials modulo f has rank n - 1.
+-- Berlekamp's criterion as a certificate: f of degree n is irreducible if it is coprime to its
+-- derivative, and the map v -> v^p - v on the polynomials modulo f has rank n - 1.
 --     berlekamp_column o p f k     x^(k p) - x^k modulo f, as a column of deg f places
---     berlekamp_matrix o p f       columns 1 to n - 1 of the matrix of v -> v^p - v on 1, x, .., x^(n - 1); column 0 is zero
+--     berlekamp_matrix o p f       columns 1 to n - 1 of the matrix of v -> v^p - v on 1, x, ..,
+--         x^(n - 1); column 0 is zero
 --     HasShape f cert              the parts of cert are over the prime of f and of the right sizes
 --     Certifies f cert             cert shows both
---     IsVerdict f v                irreducible with a certificate, or the least factor and its cofactor: what `judge` says
+--     IsVerdict f v                irreducible with a certificate, or the least factor and its
+--         cofactor: what `judge` says
 use Rattle.std.specs.Prelude.{◌≡◌, ℕ, ◌-◌, ◌*◌, ◌≤◌, List, [], ◌∷◌, length, map}
 use Rattle.std.specs.List.{range_with_len}
 use Rattle.std.specs.Ordering.{nat_cmp}
@@ -22,10 +24,12 @@ use Rattle.ff_factor.specs.declared.verdicts.Verdict.TheVariants.{Irreducible, R
 module _ {A : Type 0} (o : Ops A) (p : ℕ) (f : List A) where
   abbrev pub berlekamp_column : ℕ → List A
   berlekamp_column k =
-      let x = o.zero ∷ o.one ∷ [] in remainder o f (poly_difference o (poly_power o x (k * p)) (poly_power o x k))
+      let x = o.zero ∷ o.one ∷ [] in
+      remainder o f (poly_difference o (poly_power o x (k * p)) (poly_power o x k))
 
   abbrev pub berlekamp_matrix : Matrix A
-  berlekamp_matrix = record { rows = degree f; columns = map berlekamp_column (range_with_len 1 (degree f - 1)) }
+  berlekamp_matrix = record
+      { rows = degree f; columns = map berlekamp_column (range_with_len 1 (degree f - 1)) }
 
 pub record HasShape (f : Polynomial) (cert : Cert) : Type 0 where
   pub primes : (cert.u.prime ≡ f.prime) × (cert.w.prime ≡ f.prime) × (cert.left.prime ≡ f.prime)

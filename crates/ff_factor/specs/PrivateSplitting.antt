@@ -1,4 +1,5 @@
--- What the clauses of splitting and factoring speak of. Only contracts of functions that aren't public cite this module.
+-- What the clauses of splitting and factoring speak of. Only contracts of functions that aren't
+-- public cite this module.
 --     IsFinding f s            a proper factor, or a certificate that there is none
 --     IsNonzeroKernelColumn p m x     a column that isn't zero and that m sends to zero
 --     IsLeastNegativeRoot p f c     c is the least residue with f(-c) = 0 modulo p
@@ -23,7 +24,8 @@ use Rattle.ff_factor.specs.declared.splitting.Finding.TheVariants.{Irreducible, 
 
 abbrev pub IsFinding : Polynomial → Finding → Type 0
 IsFinding f (Irreducible cert) = Certifies f cert × IsIrreducible (residues f.prime) f.coefficients
-IsFinding f (Divisor g) = (g.prime ≡ f.prime) × IsProperFactor (residues f.prime) f.coefficients g.coefficients
+IsFinding f (Divisor g) = (g.prime ≡ f.prime)
+    × IsProperFactor (residues f.prime) f.coefficients g.coefficients
 
 pub record IsNonzeroKernelColumn (p : ℕ) (m : Matrix ℕ) (x : List ℕ) : Type 0 where
   pub column : IsColumn (residues p) (length m.columns) x
@@ -46,7 +48,8 @@ pub record IsPowerOfVariable (f : Polynomial) (k : ℕ) (c : List ℕ) : Type 0 
   pub residues : All (λ x. x < f.prime) c
   pub short : length c ≤ degree f.coefficients
   pub power : let o = mod_ops f.prime in
-      remainder o f.coefficients c ≡ remainder o f.coefficients (poly_power o (0 ∷ 1 ∷ []) (k * f.prime))
+      remainder o f.coefficients c
+      ≡ remainder o f.coefficients (poly_power o (0 ∷ 1 ∷ []) (k * f.prime))
 
 abbrev pub ArePlacesOfPower : Polynomial → ℕ → List ℕ → Type 0
 ArePlacesOfPower f e xs = let o = mod_ops f.prime in
@@ -56,6 +59,9 @@ pub record Collects (f : Polynomial) (old new : List Polynomial) : Type 0 where
   pub primes : AreOver f.prime new
   pub grows : length old < length new
   pub room : length new + 1 ≤ length old + length f.coefficients
-  pub sorted : IsSorted (order_by nat_cmp) (coefficients_of old) → IsSorted (order_by nat_cmp) (coefficients_of new)
-  pub factors : (g : List ℕ) → IsPolynomial (residues f.prime) g → IsFactorization (residues f.prime) g (coefficients_of old)
-      → IsFactorization (residues f.prime) (poly_product (mod_ops f.prime) f.coefficients g) (coefficients_of new)
+  pub sorted : IsSorted (order_by nat_cmp) (coefficients_of old)
+      → IsSorted (order_by nat_cmp) (coefficients_of new)
+  pub factors : (g : List ℕ) → IsPolynomial (residues f.prime) g
+      → IsFactorization (residues f.prime) g (coefficients_of old)
+      → IsFactorization (residues f.prime) (poly_product (mod_ops f.prime) f.coefficients g)
+      (coefficients_of new)

@@ -16,8 +16,9 @@ use ff_poly::{MAX_DEGREE, Poly};
 
 /// A certificate that a polynomial `f` of degree `n` is irreducible (Berlekamp 1970).
 ///
-/// It shows that `f` has no repeated factor, by `u * f + w * f' = 1`, and that only constants are their own power `p` modulo
-/// `f`: a product of two coprime factors would have other such polynomials too.
+/// It shows that `f` has no repeated factor, by `u * f + w * f' = 1`, and that only constants are
+/// their own power `p` modulo `f`: a product of two coprime factors would have other such
+/// polynomials too.
 #[derive(Drop)]
 pub struct Cert {
     /// The factor of `f`, of at most `MAX_DEGREE` coefficients.
@@ -26,8 +27,8 @@ pub struct Cert {
     /// The factor of the derivative of `f`, of at most `MAX_DEGREE` coefficients.
     pub w: Poly,
 
-    /// A left inverse, of `n - 1` rows and `n` columns, of the columns 1 to `n - 1` of the matrix of `v -> v^p - v` modulo `f`
-    /// on the powers of `x`.
+    /// A left inverse, of `n - 1` rows and `n` columns, of the columns 1 to `n - 1` of the matrix
+    /// of `v -> v^p - v` modulo `f` on the powers of `x`.
     pub left: Matrix,
 }
 
@@ -46,8 +47,10 @@ impl Cert {
 
 /// A polynomial with a certificate is irreducible.
 pub fn certificates_are_sound()
-    ensures { (f : Polynomial) (cert : Cert) → IsPoly f → IsMonic (residues f.prime) f.coefficients → 1 < length f.coefficients
-        → IsPoly cert.u → IsPoly cert.w → IsModularMatrix cert.left → Certifies f cert → IsIrreducible (residues f.prime) f.coefficients }
+    ensures { (f : Polynomial) (cert : Cert) → IsPoly f → IsMonic (residues f.prime) f.coefficients
+        → 1 < length f.coefficients
+        → IsPoly cert.u → IsPoly cert.w → IsModularMatrix cert.left → Certifies f cert
+        → IsIrreducible (residues f.prime) f.coefficients }
 {}
 
 /// Whether a certificate holds for `f`, so that `f` is irreducible. It is worked out here anew.
@@ -79,10 +82,12 @@ fn has_shape(f: &Poly, cert: &Cert) -> bool
 // Whether u * f + w * f' = 1.
 fn is_separable(f: &Poly, u: &Poly, w: &Poly) -> bool
     requires primes { (u.now.prime ≡ f.now.prime) × (w.now.prime ≡ f.now.prime) }
-    requires short { (length u.now.coefficients ≤ MAX_DEGREE) × (length w.now.coefficients ≤ MAX_DEGREE) }
+    requires short { (length u.now.coefficients ≤ MAX_DEGREE)
+        × (length w.now.coefficients ≤ MAX_DEGREE) }
     requires not_constant { 1 < length f.now.coefficients }
     requires degree { length f.now.coefficients ≤ MAX_DEGREE + 1 }
-    ensures { let o = mod_ops f.now.prime in IsTrue result ↔ (poly_sum o (poly_product o u.now.coefficients f.now.coefficients)
+    ensures { let o = mod_ops f.now.prime in IsTrue result
+        ↔ (poly_sum o (poly_product o u.now.coefficients f.now.coefficients)
         (poly_product o w.now.coefficients (derivative o f.now.coefficients)) ≡ 1 ∷ []) }
 {
     let derivative = f.derivative();
@@ -105,7 +110,8 @@ fn is_left_inverse(f: &Poly, left: &Matrix) -> bool
     requires prime { left.now.prime ≡ f.now.prime }
     requires columns { length left.now.matrix.columns ≡ degree f.now.coefficients }
     ensures { let o = mod_ops f.now.prime in IsTrue result ↔ (matrix_product o left.now.matrix
-        (berlekamp_matrix o f.now.prime f.now.coefficients) ≡ identity_matrix o (degree f.now.coefficients - 1)) }
+        (berlekamp_matrix o f.now.prime f.now.coefficients)
+        ≡ identity_matrix o (degree f.now.coefficients - 1)) }
 {
     let product = left.mul(&matrix_by_powers(f));
     is_identity(&product, f.coefficients().len() - 2)
@@ -123,7 +129,8 @@ fn is_identity(m: &Matrix, n: usize) -> bool
 
 // Whether each column has a 1 in the row of its own number and zeros elsewhere.
 fn has_unit_columns(m: &Matrix) -> bool
-    ensures { IsTrue result ↔ ((k : ℕ) → k < length m.now.matrix.columns → (r : ℕ) → r < m.now.matrix.rows
+    ensures { IsTrue result
+        ↔ ((k : ℕ) → k < length m.now.matrix.columns → (r : ℕ) → r < m.now.matrix.rows
         → entry (mod_ops m.now.prime) m.now.matrix r k ≡ (if r == k then 1 else 0)) }
 {
     for k in 0..m.columns() {

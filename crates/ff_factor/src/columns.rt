@@ -15,16 +15,19 @@ use arrayvec::ArrayVec;
 use ff_matrix::{Column, Matrix};
 use ff_poly::{MAX_DEGREE, Poly, Prime};
 
-// Up to this prime the steps from one power of x^p to the next are fewer than what the matrix takes.
+// Up to this prime the steps from one power of x^p to the next are fewer than what the matrix
+// takes.
 const FEW_STEPS: u8 = 13;
 
-/// The columns 1 to `n - 1` of the matrix, for `f` of degree `n`; each power of `x^p` is made from the one before.
+/// The columns 1 to `n - 1` of the matrix, for `f` of degree `n`; each power of `x^p` is made from
+/// the one before.
 pub(crate) fn matrix_in_turn(f: &Poly) -> Matrix
     requires monic { IsMonic (residues f.now.prime) f.now.coefficients }
     requires not_constant { 1 < length f.now.coefficients }
     requires degree { length f.now.coefficients ≤ MAX_DEGREE + 1 }
     ensures prime { result.prime ≡ f.now.prime }
-    ensures matrix { result.matrix ≡ berlekamp_matrix (mod_ops f.now.prime) f.now.prime f.now.coefficients }
+    ensures matrix { result.matrix
+        ≡ berlekamp_matrix (mod_ops f.now.prime) f.now.prime f.now.coefficients }
 {
     let columns = columns_in_turn(f);
     Matrix::of_columns(f.prime(), f.coefficients().len() - 1, columns.as_slice())
@@ -35,7 +38,8 @@ fn columns_in_turn(f: &Poly) -> ArrayVec<Column, MAX_DEGREE>
     requires monic { IsMonic (residues f.now.prime) f.now.coefficients }
     requires not_constant { 1 < length f.now.coefficients }
     requires degree { length f.now.coefficients ≤ MAX_DEGREE + 1 }
-    ensures columns { result.items ≡ (berlekamp_matrix (mod_ops f.now.prime) f.now.prime f.now.coefficients).columns }
+    ensures columns { result.items
+        ≡ (berlekamp_matrix (mod_ops f.now.prime) f.now.prime f.now.coefficients).columns }
 {
     if f.prime().number() <= FEW_STEPS {
         columns_by_steps(f)
@@ -49,7 +53,8 @@ fn columns_by_steps(f: &Poly) -> ArrayVec<Column, MAX_DEGREE>
     requires monic { IsMonic (residues f.now.prime) f.now.coefficients }
     requires not_constant { 1 < length f.now.coefficients }
     requires degree { length f.now.coefficients ≤ MAX_DEGREE + 1 }
-    ensures columns { result.items ≡ (berlekamp_matrix (mod_ops f.now.prime) f.now.prime f.now.coefficients).columns }
+    ensures columns { result.items
+        ≡ (berlekamp_matrix (mod_ops f.now.prime) f.now.prime f.now.coefficients).columns }
 {
     let _prime = f.prime();
     let degree = f.coefficients().len() - 1;
@@ -67,7 +72,8 @@ fn columns_by_table(f: &Poly) -> ArrayVec<Column, MAX_DEGREE>
     requires monic { IsMonic (residues f.now.prime) f.now.coefficients }
     requires not_constant { 1 < length f.now.coefficients }
     requires degree { length f.now.coefficients ≤ MAX_DEGREE + 1 }
-    ensures columns { result.items ≡ (berlekamp_matrix (mod_ops f.now.prime) f.now.prime f.now.coefficients).columns }
+    ensures columns { result.items
+        ≡ (berlekamp_matrix (mod_ops f.now.prime) f.now.prime f.now.coefficients).columns }
 {
     let degree = f.coefficients().len() - 1;
     let table = power_table(f);
@@ -89,7 +95,8 @@ fn power_table(f: &Poly) -> Matrix
     ensures prime { result.prime ≡ f.now.prime }
     ensures rows { result.matrix.rows ≡ degree f.now.coefficients }
     ensures columns { let o = mod_ops f.now.prime in result.matrix.columns
-        ≡ map (λ j. remainder o f.now.coefficients (poly_power o (0 ∷ 1 ∷ []) j)) (range_with_len f.now.prime (degree f.now.coefficients)) }
+        ≡ map (λ j. remainder o f.now.coefficients (poly_power o (0 ∷ 1 ∷ []) j))
+        (range_with_len f.now.prime (degree f.now.coefficients)) }
 {
     let columns = power_columns(f);
     Matrix::of_columns(f.prime(), f.coefficients().len() - 1, columns.as_slice())
@@ -101,7 +108,8 @@ fn power_columns(f: &Poly) -> ArrayVec<Column, MAX_DEGREE>
     requires not_constant { 1 < length f.now.coefficients }
     requires degree { length f.now.coefficients ≤ MAX_DEGREE + 1 }
     ensures columns { let o = mod_ops f.now.prime in result.items
-        ≡ map (λ j. remainder o f.now.coefficients (poly_power o (0 ∷ 1 ∷ []) j)) (range_with_len f.now.prime (degree f.now.coefficients)) }
+        ≡ map (λ j. remainder o f.now.coefficients (poly_power o (0 ∷ 1 ∷ []) j))
+        (range_with_len f.now.prime (degree f.now.coefficients)) }
 {
     let p = f.prime();
     let degree = f.coefficients().len() - 1;
@@ -137,7 +145,8 @@ fn multiply_by_power(places: &mut [u8], f: &Poly)
     requires residues { All (λ x. x < f.now.prime) places.old }
     ensures places { length places.new ≡ length places.old }
     ensures residues { All (λ x. x < f.now.prime) places.new }
-    ensures power { (e : ℕ) → ArePlacesOfPower f.now e places.old → ArePlacesOfPower f.now (e + f.now.prime) places.new }
+    ensures power { (e : ℕ) → ArePlacesOfPower f.now e places.old
+        → ArePlacesOfPower f.now (e + f.now.prime) places.new }
 {
     let p = f.prime();
     for _k in 0..p.number() {
@@ -145,7 +154,8 @@ fn multiply_by_power(places: &mut [u8], f: &Poly)
     }
 }
 
-// Multiplies by x modulo f: shifts up by one, and adds the multiple of f that takes the top place off.
+// Multiplies by x modulo f: shifts up by one, and adds the multiple of f that takes the top place
+// off.
 fn multiply_by_variable(places: &mut [u8], f: &[u8], p: Prime)
     requires places { 0 < length places.old }
     requires sizes { length f.now ≡ length places.old + 1 }
@@ -171,7 +181,8 @@ pub(crate) fn matrix_by_powers(f: &Poly) -> Matrix
     requires not_constant { 1 < length f.now.coefficients }
     requires degree { length f.now.coefficients ≤ MAX_DEGREE + 1 }
     ensures prime { result.prime ≡ f.now.prime }
-    ensures matrix { result.matrix ≡ berlekamp_matrix (mod_ops f.now.prime) f.now.prime f.now.coefficients }
+    ensures matrix { result.matrix
+        ≡ berlekamp_matrix (mod_ops f.now.prime) f.now.prime f.now.coefficients }
 {
     let columns = columns_by_powers(f);
     Matrix::of_columns(f.prime(), f.coefficients().len() - 1, columns.as_slice())
@@ -182,7 +193,8 @@ fn columns_by_powers(f: &Poly) -> ArrayVec<Column, MAX_DEGREE>
     requires monic { IsMonic (residues f.now.prime) f.now.coefficients }
     requires not_constant { 1 < length f.now.coefficients }
     requires degree { length f.now.coefficients ≤ MAX_DEGREE + 1 }
-    ensures columns { result.items ≡ (berlekamp_matrix (mod_ops f.now.prime) f.now.prime f.now.coefficients).columns }
+    ensures columns { result.items
+        ≡ (berlekamp_matrix (mod_ops f.now.prime) f.now.prime f.now.coefficients).columns }
 {
     let degree = f.coefficients().len() - 1;
     let mut columns = ArrayVec::new();
@@ -212,7 +224,8 @@ pub(crate) fn gap_column(f: &Poly, power: &[u8], k: usize) -> Column
     requires degree { length f.now.coefficients ≤ MAX_DEGREE + 1 }
     requires place { k < degree f.now.coefficients }
     requires power { IsPowerOfVariable f.now k power.now }
-    ensures value { result ≡ berlekamp_column (mod_ops f.now.prime) f.now.prime f.now.coefficients k }
+    ensures value { result
+        ≡ berlekamp_column (mod_ops f.now.prime) f.now.prime f.now.coefficients k }
     ensures column { IsColumn (residues f.now.prime) (degree f.now.coefficients) result }
 {
     let numbers = gap_numbers(f.prime(), power, k, f.coefficients().len() - 1);
@@ -225,7 +238,8 @@ fn gap_numbers(p: Prime, power: &[u8], k: usize, n: usize) -> ArrayVec<u8, MAX_D
     requires residues { All (λ x. x < p) power.now }
     ensures column { IsColumn (residues p) n result.items }
     ensures places { let o = mod_ops p in (i : ℕ) → i < n
-        → slice_index result.items i ≡ o.add (slice_index power.now i) (o.neg (if i == k then 1 else 0)) }
+        → slice_index result.items i
+        ≡ o.add (slice_index power.now i) (o.neg (if i == k then 1 else 0)) }
 {
     let _number = p.number();
     let mut numbers = ArrayVec::new();

@@ -75,10 +75,12 @@ pub(crate) fn collect(f: &Poly, list: &mut FactorList)
 pub(crate) fn cofactor(f: &Poly, factor: &Poly) -> Poly
     requires monic { IsMonic (residues f.now.prime) f.now.coefficients }
     requires prime { factor.now.prime ≡ f.now.prime }
-    requires factor { IsProperFactor (residues f.now.prime) f.now.coefficients factor.now.coefficients }
+    requires factor { IsProperFactor (residues f.now.prime) f.now.coefficients
+        factor.now.coefficients }
     ensures characteristic { IsCharacteristic f.now.prime }
     ensures prime { result.prime ≡ f.now.prime }
-    ensures cofactor { IsCofactor (residues f.now.prime) f.now.coefficients factor.now.coefficients result.coefficients }
+    ensures cofactor { IsCofactor (residues f.now.prime) f.now.coefficients factor.now.coefficients
+        result.coefficients }
 {
     let _prime = f.prime();
     let (quotient, _) = f.divrem(factor);
@@ -89,8 +91,12 @@ pub(crate) fn cofactor(f: &Poly, factor: &Poly) -> Poly
 fn place_of(polynomials: &[Poly], g: &Poly) -> usize
     requires { AreOver g.now.prime polynomials.now }
     ensures within { result ≤ length polynomials.now }
-    ensures before { (k : ℕ) (d : Polynomial) → k < result → order_by nat_cmp g.now.coefficients (slice_index_or polynomials.now k d).coefficients ≢ Ordering.Less }
-    ensures after { (d : Polynomial) → result < length polynomials.now → order_by nat_cmp g.now.coefficients (slice_index_or polynomials.now result d).coefficients ≡ Ordering.Less }
+    ensures before { (k : ℕ) (d : Polynomial) → k < result
+        → order_by nat_cmp g.now.coefficients (slice_index_or polynomials.now k d).coefficients ≢
+        Ordering.Less }
+    ensures after { (d : Polynomial) → result < length polynomials.now
+        → order_by nat_cmp g.now.coefficients (slice_index_or polynomials.now result d).coefficients
+        ≡ Ordering.Less }
 {
     for (i, h) in polynomials.iter().enumerate() {
         if g.compare(h) == Ordering::Less {

@@ -1,7 +1,8 @@
-//! Irreducibility and factors of the monic polynomials of degree 1 to `MAX_DEGREE` over the residues modulo a small prime,
-//! without allocation.
+//! Irreducibility and factors of the monic polynomials of degree 1 to `MAX_DEGREE` over the
+//! residues modulo a small prime, without allocation.
 //!
-//! A polynomial is judged irreducible with a certificate that a separate check accepts, or reducible with its least factor.
+//! A polynomial is judged irreducible with a certificate that a separate check accepts, or
+//! reducible with its least factor.
 #![tactic(auto)]
 
 mod certificates;

@@ -9,10 +9,12 @@ ghost use Rattle.ff_factor.specs.PrivateSplitting.{IsLeastNegativeRoot};
 use crate::polynomials::poly_of;
 use ff_poly::{Poly, Prime};
 
-/// The least factor `x + c` of `f`, where `f` is of degree above 1 and has one: the first `c` where `f(-c) = 0`.
+/// The least factor `x + c` of `f`, where `f` is of degree above 1 and has one: the first `c` where
+/// `f(-c) = 0`.
 pub(crate) fn linear_factor(f: &Poly) -> Option<Poly>
     ensures prime { IfSome result (λ g. g.prime ≡ f.now.prime) }
-    ensures least { IfSome result (λ g. IsLeastFactor (residues f.now.prime) nat_cmp f.now.coefficients g.coefficients) }
+    ensures least { IfSome result
+        (λ g. IsLeastFactor (residues f.now.prime) nat_cmp f.now.coefficients g.coefficients) }
     ensures irreducible { IfSome result (λ g. IsIrreducible (residues f.now.prime) g.coefficients) }
 {
     let p = f.prime();
@@ -45,7 +47,8 @@ fn least_negative_root(p: Prime, f: &[u8]) -> Option<u8>
 // The first c where the value at -c is 0.
 fn first_zero(p: Prime, f: &[u8], values: &[u16]) -> Option<u8>
     requires lanes { p ≤ length values.now }
-    requires values { (k : ℕ) → k < p → slice_index values.now k ≡ evaluate (mod_ops p) f.now ((mod_ops p).neg k) }
+    requires values { (k : ℕ) → k < p
+        → slice_index values.now k ≡ evaluate (mod_ops p) f.now ((mod_ops p).neg k) }
     ensures { IfSome result (IsLeastNegativeRoot p f.now) }
 {
     for c in 0..p.number() {
@@ -61,7 +64,8 @@ fn values<const W: usize>(p: Prime, f: &[u8]) -> [u16; W]
     requires lanes { (p ≤ W) × (W ≤ 64) }
     requires residues { All (λ x. x < p) f.now }
     ensures lanes { length result ≡ W }
-    ensures values { (k : ℕ) → k < p → slice_index result k ≡ evaluate (mod_ops p) f.now ((mod_ops p).neg k) }
+    ensures values { (k : ℕ) → k < p
+        → slice_index result k ≡ evaluate (mod_ops p) f.now ((mod_ops p).neg k) }
 {
     let points = negatives::<W>(p);
     let mut values = [0; W];
@@ -96,7 +100,8 @@ fn multiply_and_add<const W: usize>(p: Prime, values: &mut [u16; W], points: &[u
     requires addend { a < p }
     ensures lanes { length values.new ≡ length values.old }
     ensures residues { All (λ x. x < p) values.new }
-    ensures places { (k : ℕ) → k < W → slice_index values.new k ≡ (slice_index values.old k * slice_index points.now k + a) % p }
+    ensures places { (k : ℕ) → k < W
+        → slice_index values.new k ≡ (slice_index values.old k * slice_index points.now k + a) % p }
 {
     let _number = p.number();
     for l in 0..W {

@@ -30,9 +30,9 @@ pub(crate) enum Finding {
 
 /// A proper factor of `f`, or a certificate that there is none (Berlekamp 1970).
 ///
-/// Where some `v` that is no constant has `v^p = v` modulo `f`, it has a factor in common with `f` when the right constant is
-/// taken off, as `f` divides the product of all `v - c`. Where only constants have it, `f` is a power of an irreducible
-/// polynomial.
+/// Where some `v` that is no constant has `v^p = v` modulo `f`, it has a factor in common with `f`
+/// when the right constant is taken off, as `f` divides the product of all `v - c`. Where only
+/// constants have it, `f` is a power of an irreducible polynomial.
 #[inline(never)]
 pub(crate) fn split(f: &Poly) -> Finding
     requires monic { IsMonic (residues f.now.prime) f.now.coefficients }
@@ -48,9 +48,11 @@ pub(crate) fn split(f: &Poly) -> Finding
     }
 }
 
-// A proper factor of f, or a certificate that there is none, where the matrix of v -> v^p - v has this left inverse.
+// A proper factor of f, or a certificate that there is none, where the matrix of v -> v^p - v has
+// this left inverse.
 //
-// A polynomial with derivative 0 is a power p, and what it has in common with another derivative is a factor.
+// A polynomial with derivative 0 is a power p, and what it has in common with another derivative is
+// a factor.
 fn split_power(f: &Poly, left: Matrix) -> Finding
     requires monic { IsMonic (residues f.now.prime) f.now.coefficients }
     requires not_constant { 1 < length f.now.coefficients }
@@ -58,7 +60,8 @@ fn split_power(f: &Poly, left: Matrix) -> Finding
     requires prime { left.prime ≡ f.now.prime }
     requires columns { length left.matrix.columns ≡ degree f.now.coefficients }
     requires left_inverse { let o = mod_ops f.now.prime in
-        matrix_product o left.matrix (berlekamp_matrix o f.now.prime f.now.coefficients) ≡ identity_matrix o (degree f.now.coefficients - 1) }
+        matrix_product o left.matrix (berlekamp_matrix o f.now.prime f.now.coefficients)
+        ≡ identity_matrix o (degree f.now.coefficients - 1) }
     ensures { IsFinding f.now result }
 {
     let derivative = f.derivative();
@@ -89,13 +92,16 @@ fn power_root(f: &Poly) -> Poly
 fn certificate(f: &Poly, u: Poly, w: Poly, left: Matrix) -> Cert
     requires monic { IsMonic (residues f.now.prime) f.now.coefficients }
     requires not_constant { 1 < length f.now.coefficients }
-    requires primes { (u.prime ≡ f.now.prime) × (w.prime ≡ f.now.prime) × (left.prime ≡ f.now.prime) }
+    requires primes { (u.prime ≡ f.now.prime) × (w.prime ≡ f.now.prime)
+        × (left.prime ≡ f.now.prime) }
     requires short { (length u.coefficients ≤ MAX_DEGREE) × (length w.coefficients ≤ MAX_DEGREE) }
     requires separable { let o = mod_ops f.now.prime in
-        poly_sum o (poly_product o u.coefficients f.now.coefficients) (poly_product o w.coefficients (derivative o f.now.coefficients)) ≡ 1 ∷ [] }
+        poly_sum o (poly_product o u.coefficients f.now.coefficients)
+        (poly_product o w.coefficients (derivative o f.now.coefficients)) ≡ 1 ∷ [] }
     requires columns { length left.matrix.columns ≡ degree f.now.coefficients }
     requires left_inverse { let o = mod_ops f.now.prime in
-        matrix_product o left.matrix (berlekamp_matrix o f.now.prime f.now.coefficients) ≡ identity_matrix o (degree f.now.coefficients - 1) }
+        matrix_product o left.matrix (berlekamp_matrix o f.now.prime f.now.coefficients)
+        ≡ identity_matrix o (degree f.now.coefficients - 1) }
     ensures certifies { Certifies f.now result }
     ensures irreducible { IsIrreducible (residues f.now.prime) f.now.coefficients }
 {
@@ -109,7 +115,8 @@ fn certificate(f: &Poly, u: Poly, w: Poly, left: Matrix) -> Cert
 // A column that isn't zero and that the matrix with this form sends to zero.
 fn kernel_column(m: &Matrix, echelon: &Echelon) -> Column
     requires echelon { IsEchelonOf m.now echelon.now }
-    requires dependent { IsIndependent (residues m.now.prime) m.now.matrix.rows m.now.matrix.columns → ⊥ }
+    requires dependent { IsIndependent (residues m.now.prime) m.now.matrix.rows m.now.matrix.columns
+        → ⊥ }
     ensures { IsNonzeroKernelColumn m.now.prime m.now.matrix result }
 {
     let _prime = m.prime();
@@ -121,7 +128,8 @@ fn kernel_column(m: &Matrix, echelon: &Echelon) -> Column
 fn split_by_column(f: &Poly, column: &Column) -> Poly
     requires monic { IsMonic (residues f.now.prime) f.now.coefficients }
     requires not_constant { 1 < length f.now.coefficients }
-    requires column { IsNonzeroKernelColumn f.now.prime (berlekamp_matrix (mod_ops f.now.prime) f.now.prime f.now.coefficients) column.now }
+    requires column { IsNonzeroKernelColumn f.now.prime
+        (berlekamp_matrix (mod_ops f.now.prime) f.now.prime f.now.coefficients) column.now }
     ensures prime { result.prime ≡ f.now.prime }
     ensures factor { IsProperFactor (residues f.now.prime) f.now.coefficients result.coefficients }
 {
@@ -134,7 +142,8 @@ fn split_by_fixed(f: &Poly, v: &Poly) -> Poly
     requires prime { v.now.prime ≡ f.now.prime }
     requires not_constant { 1 < length v.now.coefficients }
     requires shorter { length v.now.coefficients < length f.now.coefficients }
-    requires fixed { IsFixed (residues f.now.prime) f.now.prime f.now.coefficients v.now.coefficients }
+    requires fixed { IsFixed (residues f.now.prime) f.now.prime f.now.coefficients
+        v.now.coefficients }
     ensures prime { result.prime ≡ f.now.prime }
     ensures factor { IsProperFactor (residues f.now.prime) f.now.coefficients result.coefficients }
 {

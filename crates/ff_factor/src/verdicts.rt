@@ -19,7 +19,8 @@ pub enum Verdict {
 
     /// It is the product of its least factor and of the cofactor.
     Reducible {
-        /// The first, in the order of polynomials, of the monic divisors of degree above 0 and below that of the polynomial.
+        /// The first, in the order of polynomials, of the monic divisors of degree above 0 and
+        /// below that of the polynomial.
         factor: Poly,
 
         /// The quotient by it.
@@ -29,8 +30,9 @@ pub enum Verdict {
 
 /// Judges whether `f` is irreducible.
 ///
-/// `f` is monic, of degree 1 to `MAX_DEGREE`. A factor of degree 1 is the least one outright. Else a reducible one is factored by Berlekamp's method (Berlekamp 1970; Knuth, The Art
-/// of Computer Programming 2, section 4.6.2, algorithm B).
+/// `f` is monic, of degree 1 to `MAX_DEGREE`. A factor of degree 1 is the least one outright. Else
+/// a reducible one is factored by Berlekamp's method (Berlekamp 1970; Knuth, The Art of Computer
+/// Programming 2, section 4.6.2, algorithm B).
 pub fn judge(f: &Poly) -> Verdict
     requires monic { IsMonic (residues f.now.prime) f.now.coefficients }
     requires not_constant { 1 < length f.now.coefficients }
@@ -50,7 +52,8 @@ pub fn judge(f: &Poly) -> Verdict
 fn reducible(f: &Poly, factor: Poly) -> Verdict
     requires monic { IsMonic (residues f.now.prime) f.now.coefficients }
     requires prime { factor.prime ≡ f.now.prime }
-    requires least { IsLeastFactor (residues f.now.prime) nat_cmp f.now.coefficients factor.coefficients }
+    requires least { IsLeastFactor (residues f.now.prime) nat_cmp f.now.coefficients
+        factor.coefficients }
     ensures { IsVerdict f.now result }
 {
     let cofactor = cofactor(f, &factor);
@@ -62,9 +65,11 @@ fn least_factor(f: &Poly, divisor: &Poly) -> Poly
     requires monic { IsMonic (residues f.now.prime) f.now.coefficients }
     requires degree { length f.now.coefficients ≤ MAX_DEGREE + 1 }
     requires prime { divisor.now.prime ≡ f.now.prime }
-    requires divisor { IsProperFactor (residues f.now.prime) f.now.coefficients divisor.now.coefficients }
+    requires divisor { IsProperFactor (residues f.now.prime) f.now.coefficients
+        divisor.now.coefficients }
     ensures prime { result.prime ≡ f.now.prime }
-    ensures least { IsLeastFactor (residues f.now.prime) nat_cmp f.now.coefficients result.coefficients }
+    ensures least { IsLeastFactor (residues f.now.prime) nat_cmp f.now.coefficients
+        result.coefficients }
 {
     let _prime = f.prime();
     let quotient = cofactor(f, divisor);

@@ -24,7 +24,8 @@ pub struct Echelon {
 }
 
 impl Matrix {
-    /// The reduced row echelon form, by Gauss-Jordan elimination on the matrix beside the identity (Hoffman and Kunze, Linear Algebra, 1.4).
+    /// The reduced row echelon form, by Gauss-Jordan elimination on the matrix beside the identity
+    /// (Hoffman and Kunze, Linear Algebra, 1.4).
     pub fn echelon(&self) -> Echelon
         ensures { IsEchelonOf self.now result }
     {
@@ -97,7 +98,8 @@ fn augmented_row<const W: usize>(m: &Matrix, i: usize) -> [u8; W]
     requires room { length m.now.matrix.columns + m.now.matrix.rows ≤ W }
     requires row { i < m.now.matrix.rows }
     ensures row { IsColumn (residues m.now.prime) W result }
-    ensures left { (k : ℕ) → k < length m.now.matrix.columns → slice_index result k ≡ entry (mod_ops m.now.prime) m.now.matrix i k }
+    ensures left { (k : ℕ) → k < length m.now.matrix.columns
+        → slice_index result k ≡ entry (mod_ops m.now.prime) m.now.matrix i k }
     ensures right { (k : ℕ) → k < m.now.matrix.rows
         → slice_index result (length m.now.matrix.columns + k) ≡ (if i == k then 1 else 0) }
 {
@@ -129,7 +131,8 @@ fn block<const W: usize>(p: Prime, rows: &[[u8; W]], start: usize, count: usize)
     requires residues { AreRows W p rows.now }
     ensures prime { result.prime ≡ p }
     ensures rows { result.matrix.rows ≡ length rows.now }
-    ensures columns { result.matrix.columns ≡ map (λ k. map (λ row. slice_index row k) rows.now) (range_with_len start count) }
+    ensures columns { result.matrix.columns
+        ≡ map (λ k. map (λ row. slice_index row k) rows.now) (range_with_len start count) }
     ensures whole { IsModularMatrix result }
 {
     let mut columns = ColumnList::new();

@@ -47,7 +47,9 @@ fn clear_row<const W: usize>(p: Prime, row: &mut Sums<W>, source: &[u8; W], colu
     requires source { All (λ x. x < p) source.now }
     ensures prime { row.new.prime ≡ p }
     ensures cleared { residue_row W row.new
-        ≡ sum (mod_ops p) (scale (mod_ops p) ((mod_ops p).neg (slice_index (residue_row W row.old) column)) source.now) (residue_row W row.old) }
+        ≡ sum (mod_ops p) (scale (mod_ops p)
+        ((mod_ops p).neg (slice_index (residue_row W row.old) column)) source.now)
+        (residue_row W row.old) }
 {
     let _number = p.number();
     let factor = p.neg(row.at(column));
@@ -63,7 +65,8 @@ fn clear_column<const W: usize>(p: Prime, rows: &mut [Sums<W>], pivot: usize, co
     requires column { column < W }
     requires sums { AreSums p rows.old }
     ensures sums { AreSums p rows.new }
-    ensures cleared { IsCleared (mod_ops p) column pivot (residue_rows W rows.old) (residue_rows W rows.new) }
+    ensures cleared { IsCleared (mod_ops p) column pivot (residue_rows W rows.old)
+        (residue_rows W rows.new) }
 {
     let _number = p.number();
     let source = rows[pivot].row();
@@ -74,7 +77,8 @@ fn clear_column<const W: usize>(p: Prime, rows: &mut [Sums<W>], pivot: usize, co
     }
 }
 
-// Puts row s in the place of row r, and the other way round, and makes its residue in this column 1, by a multiple of it.
+// Puts row s in the place of row r, and the other way round, and makes its residue in this column
+// 1, by a multiple of it.
 fn place_pivot<const W: usize>(p: Prime, rows: &mut [Sums<W>], r: usize, s: usize, column: usize)
     requires width { W ≤ MAX_WIDTH }
     requires rows { (r < length rows.old) × (s < length rows.old) }
@@ -100,7 +104,8 @@ fn reduce_column<const W: usize>(p: Prime, rows: &mut [Sums<W>], pivots: &mut Co
     requires sums { AreSums p rows.old }
     ensures sums { AreSums p rows.new }
     ensures pivots { length pivots.new ≤ column + 1 }
-    ensures reduced { (start : List (List ℕ)) → Eliminates W p column start (residue_rows W rows.old) pivots.old
+    ensures reduced { (start : List (List ℕ))
+        → Eliminates W p column start (residue_rows W rows.old) pivots.old
         → Eliminates W p (column + 1) start (residue_rows W rows.new) pivots.new }
 {
     let first = pivots.numbers().len();
@@ -118,7 +123,8 @@ fn reduce_sums<const W: usize>(p: Prime, rows: &mut [Sums<W>], columns: usize) -
     requires sums { AreSums p rows.old }
     ensures sums { AreSums p rows.new }
     ensures count { length rows.new ≡ length rows.old }
-    ensures reduced { Eliminates W p columns (residue_rows W rows.old) (residue_rows W rows.new) result }
+    ensures reduced { Eliminates W p columns (residue_rows W rows.old) (residue_rows W rows.new)
+        result }
 {
     let mut pivots = Column::of_slice(&[]);
     for column in 0..columns {

@@ -1,5 +1,5 @@
-//! Matrices over the residues modulo a small prime, in a fixed room and without allocation: products, reduced row echelon form,
-//! kernel, solutions and left inverses.
+//! Matrices over the residues modulo a small prime, in a fixed room and without allocation:
+//! products, reduced row echelon form, kernel, solutions and left inverses.
 #![tactic(auto)]
 
 mod columns;

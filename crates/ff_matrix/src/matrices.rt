@@ -24,9 +24,11 @@ impl Model for Matrix {
 
     ghost Value = { ModularMatrix };
 
-    ghost view = { λ a. record { prime = a.prime; matrix = record { rows = a.rows; columns = a.columns } } };
+    ghost view = { λ a. record
+        { prime = a.prime; matrix = record { rows = a.rows; columns = a.columns } } };
 
-    ghost invariant = { λ a. IsModularMatrix (record { prime = a.prime; matrix = record { rows = a.rows; columns = a.columns } }) };
+    ghost invariant = { λ a. IsModularMatrix
+        (record { prime = a.prime; matrix = record { rows = a.rows; columns = a.columns } }) };
 }
 
 impl Matrix {
@@ -127,12 +129,14 @@ impl Matrix {
         combine(self.prime(), self.rows(), self.items(), c.numbers())
     }
 
-    /// The product of two matrices over one prime, the second with as many rows as the first has columns.
+    /// The product of two matrices over one prime, the second with as many rows as the first has
+    /// columns.
     pub fn mul(&self, b: &Matrix) -> Matrix
         requires primes { b.now.prime ≡ self.now.prime }
         requires sizes { b.now.matrix.rows ≡ length self.now.matrix.columns }
         ensures prime { result.prime ≡ self.now.prime }
-        ensures product { result.matrix ≡ matrix_product (mod_ops self.now.prime) self.now.matrix b.now.matrix }
+        ensures product { result.matrix
+            ≡ matrix_product (mod_ops self.now.prime) self.now.matrix b.now.matrix }
     {
         let (p, rows) = (self.prime(), self.rows());
         let columns = apply_all(self, b.items());
@@ -143,7 +147,8 @@ impl Matrix {
 // The matrix applied to each of these columns.
 fn apply_all(m: &Matrix, columns: &[Column]) -> ColumnList
     requires count { length columns.now ≤ MAX_DEGREE }
-    requires columns { All (IsColumn (residues m.now.prime) (length m.now.matrix.columns)) columns.now }
+    requires columns { All (IsColumn (residues m.now.prime) (length m.now.matrix.columns))
+        columns.now }
     ensures value { result ≡ map (matrix_apply (mod_ops m.now.prime) m.now.matrix) columns.now }
     ensures columns { All (IsColumn (residues m.now.prime) m.now.matrix.rows) result }
 {
@@ -154,7 +159,8 @@ fn apply_all(m: &Matrix, columns: &[Column]) -> ColumnList
     list
 }
 
-// The combination of columns of `rows` numbers with the coefficients c, in rows as wide as they need.
+// The combination of columns of `rows` numbers with the coefficients c, in rows as wide as they
+// need.
 fn combine(p: Prime, rows: usize, columns: &[Column], c: &[u8]) -> Column
     requires rows { rows ≤ MAX_DEGREE }
     requires sizes { length columns.now ≡ length c.now }
@@ -201,7 +207,8 @@ fn add_column<const W: usize>(p: Prime, sums: &mut Sums<W>, rows: usize, column:
     requires column { IsColumn (residues p) rows column.now }
     requires factor { factor < p }
     ensures prime { sums.new.prime ≡ p }
-    ensures added { residue_row rows sums.new ≡ sum (mod_ops p) (scale (mod_ops p) factor column.now) (residue_row rows sums.old) }
+    ensures added { residue_row rows sums.new
+        ≡ sum (mod_ops p) (scale (mod_ops p) factor column.now) (residue_row rows sums.old) }
 {
     let _number = p.number();
     sums.add(factor, &row_of::<W>(p, column), 0);

@@ -13,7 +13,8 @@ use arrayvec::ArrayVec;
 use ff_poly::{MAX_DEGREE, Prime};
 
 impl Matrix {
-    /// A basis of all columns that the matrix sends to 0: each such column is a combination of these in exactly one way.
+    /// A basis of all columns that the matrix sends to 0: each such column is a combination of
+    /// these in exactly one way.
     pub fn kernel(&self) -> ColumnList
         ensures { IsKernelBasis (residues self.now.prime) self.now.matrix result }
     {
@@ -25,19 +26,26 @@ impl Matrix {
     /// `b` has as many numbers as the matrix has rows, each below its prime.
     pub fn solve(&self, b: &Column) -> Option<Column>
         requires { IsColumn (residues self.now.prime) self.now.matrix.rows b.now }
-        ensures some { IfSome result (λ x. IsColumn (residues self.now.prime) (length self.now.matrix.columns) x
+        ensures some { IfSome result
+            (λ x. IsColumn (residues self.now.prime) (length self.now.matrix.columns) x
             × (matrix_apply (mod_ops self.now.prime) self.now.matrix x ≡ b.now)) }
-        ensures none { IsNone result ↔ ((x : List ℕ) → IsColumn (residues self.now.prime) (length self.now.matrix.columns) x
+        ensures none { IsNone result
+            ↔ ((x : List ℕ) → IsColumn (residues self.now.prime) (length self.now.matrix.columns) x
             → matrix_apply (mod_ops self.now.prime) self.now.matrix x ≡ b.now → ⊥) }
     {
         self.echelon().solve(b)
     }
 
-    /// A matrix whose product with this one is the identity; `None` exactly where the columns are dependent.
+    /// A matrix whose product with this one is the identity; `None` exactly where the columns are
+    /// dependent.
     pub fn left_inverse(&self) -> Option<Matrix>
-        ensures some { IfSome result (λ l. (l.prime ≡ self.now.prime) × (length l.matrix.columns ≡ self.now.matrix.rows)
-            × (matrix_product (mod_ops self.now.prime) l.matrix self.now.matrix ≡ identity_matrix (mod_ops self.now.prime) (length self.now.matrix.columns))) }
-        ensures none { IsNone result ↔ (IsIndependent (residues self.now.prime) self.now.matrix.rows self.now.matrix.columns → ⊥) }
+        ensures some { IfSome result (λ l. (l.prime ≡ self.now.prime)
+            × (length l.matrix.columns ≡ self.now.matrix.rows)
+            × (matrix_product (mod_ops self.now.prime) l.matrix self.now.matrix
+            ≡ identity_matrix (mod_ops self.now.prime) (length self.now.matrix.columns))) }
+        ensures none { IsNone result
+            ↔ (IsIndependent (residues self.now.prime) self.now.matrix.rows self.now.matrix.columns
+            → ⊥) }
     {
         self.echelon().left_inverse()
     }
@@ -47,7 +55,8 @@ impl Echelon {
     /// A basis of all columns that the matrix with this form sends to 0.
     pub fn kernel(&self) -> ColumnList
         requires { (m : ModularMatrix) × IsEchelonOf m self.now }
-        ensures { (m : ModularMatrix) → IsEchelonOf m self.now → IsKernelBasis (residues m.prime) m.matrix result }
+        ensures { (m : ModularMatrix) → IsEchelonOf m self.now
+            → IsKernelBasis (residues m.prime) m.matrix result }
     {
         let pivots = self.pivots.numbers();
         let free = free_columns(self.form.columns(), pivots);
@@ -58,11 +67,15 @@ impl Echelon {
     ///
     /// `b` has as many numbers as the matrix has rows, each below its prime.
     pub fn solve(&self, b: &Column) -> Option<Column>
-        requires { (m : ModularMatrix) × IsEchelonOf m self.now × IsColumn (residues m.prime) m.matrix.rows b.now }
+        requires { (m : ModularMatrix) × IsEchelonOf m self.now
+            × IsColumn (residues m.prime) m.matrix.rows b.now }
         ensures some { (m : ModularMatrix) → IsEchelonOf m self.now
-            → IfSome result (λ x. IsColumn (residues m.prime) (length m.matrix.columns) x × (matrix_apply (mod_ops m.prime) m.matrix x ≡ b.now)) }
+            → IfSome result (λ x. IsColumn (residues m.prime) (length m.matrix.columns) x
+            × (matrix_apply (mod_ops m.prime) m.matrix x ≡ b.now)) }
         ensures none { (m : ModularMatrix) → IsEchelonOf m self.now
-            → IsNone result ↔ ((x : List ℕ) → IsColumn (residues m.prime) (length m.matrix.columns) x → matrix_apply (mod_ops m.prime) m.matrix x ≡ b.now → ⊥) }
+            → IsNone result ↔ ((x : List ℕ)
+            → IsColumn (residues m.prime) (length m.matrix.columns) x
+            → matrix_apply (mod_ops m.prime) m.matrix x ≡ b.now → ⊥) }
     {
         let columns = self.form.columns();
         let target = self.transform.apply(b);
@@ -73,13 +86,17 @@ impl Echelon {
         Some(Column::of_slice(&spread(columns, pivots, target.numbers())))
     }
 
-    /// A matrix whose product with the matrix with this form is the identity; `None` exactly where the columns are dependent.
+    /// A matrix whose product with the matrix with this form is the identity; `None` exactly where
+    /// the columns are dependent.
     pub fn left_inverse(&self) -> Option<Matrix>
         requires { (m : ModularMatrix) × IsEchelonOf m self.now }
         ensures some { (m : ModularMatrix) → IsEchelonOf m self.now
             → IfSome result (λ l. (l.prime ≡ m.prime) × (length l.matrix.columns ≡ m.matrix.rows)
-            × (matrix_product (mod_ops m.prime) l.matrix m.matrix ≡ identity_matrix (mod_ops m.prime) (length m.matrix.columns))) }
-        ensures none { (m : ModularMatrix) → IsEchelonOf m self.now → IsNone result ↔ (IsIndependent (residues m.prime) m.matrix.rows m.matrix.columns → ⊥) }
+            × (matrix_product (mod_ops m.prime) l.matrix m.matrix
+            ≡ identity_matrix (mod_ops m.prime) (length m.matrix.columns))) }
+        ensures none { (m : ModularMatrix) → IsEchelonOf m self.now
+            → IsNone result ↔ (IsIndependent (residues m.prime) m.matrix.rows m.matrix.columns
+            → ⊥) }
     {
         let columns = self.form.columns();
         if self.pivots.numbers().len() < columns {
@@ -113,7 +130,8 @@ fn kernel_columns(form: &Matrix, pivots: &[u8], free: &[u8]) -> ColumnList
     requires rows_enough { length pivots.now ≤ form.now.matrix.rows }
     requires free { AreFree (length form.now.matrix.columns) pivots.now free.now }
     ensures count { length result ≡ length free.now }
-    ensures columns { (t : ℕ) → t < length free.now → IsKernelColumn form.now.prime form.now.matrix pivots.now (slice_index free.now t)
+    ensures columns { (t : ℕ) → t < length free.now
+        → IsKernelColumn form.now.prime form.now.matrix pivots.now (slice_index free.now t)
         (slice_index_or result t []) }
 {
     let _columns = form.columns();
@@ -161,9 +179,12 @@ fn spread(n: usize, places: &[u8], values: &[u8]) -> ArrayVec<u8, MAX_DEGREE>
     requires places { ArePlaces n places.now }
     requires values { length places.now ≤ length values.now }
     ensures long { length result.items ≡ n }
-    ensures at { (i : ℕ) → i < length places.now → slice_index result.items (slice_index places.now i) ≡ slice_index values.now i }
-    ensures zero { (k : ℕ) → ((i : ℕ) → i < length places.now → slice_index places.now i ≢ k) → slice_index result.items k ≡ 0 }
-    ensures residues { (p : ℕ) → 0 < p → All (λ x. x < p) values.now → All (λ x. x < p) result.items }
+    ensures at { (i : ℕ) → i < length places.now
+        → slice_index result.items (slice_index places.now i) ≡ slice_index values.now i }
+    ensures zero { (k : ℕ) → ((i : ℕ) → i < length places.now → slice_index places.now i ≢ k)
+        → slice_index result.items k ≡ 0 }
+    ensures residues { (p : ℕ) → 0 < p → All (λ x. x < p) values.now
+        → All (λ x. x < p) result.items }
 {
     let mut numbers = zeros(n);
     for i in 0..places.len() {
@@ -174,8 +195,10 @@ fn spread(n: usize, places: &[u8], values: &[u8]) -> ArrayVec<u8, MAX_DEGREE>
 
 // Whether a number from `start` on isn't 0.
 fn has_nonzero(numbers: &[u8], start: usize) -> bool
-    ensures found { IsTrue result → (i : ℕ) × (start ≤ i) × (i < length numbers.now) × (slice_index numbers.now i ≢ 0) }
-    ensures none { result ≡ false → (i : ℕ) → start ≤ i → i < length numbers.now → slice_index numbers.now i ≡ 0 }
+    ensures found { IsTrue result
+        → (i : ℕ) × (start ≤ i) × (i < length numbers.now) × (slice_index numbers.now i ≢ 0) }
+    ensures none { result ≡ false → (i : ℕ) → start ≤ i → i < length numbers.now
+        → slice_index numbers.now i ≡ 0 }
 {
     for i in start..numbers.len() {
         if numbers[i] != 0 {

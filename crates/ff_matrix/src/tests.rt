@@ -1,4 +1,5 @@
-//! Examples whose values were computed outside: reduced row echelon forms by SymPy over GF(p), the rest from them by Python.
+//! Examples whose values were computed outside: reduced row echelon forms by SymPy over GF(p), the
+//! rest from them by Python.
 ghost use Rattle.std.specs.Prelude.{◌≡◌, ◌<◌, ◌≤◌, ◌↔◌, IsTrue, length, All};
 ghost use Rattle.alg_model.specs.Coefficients.{residues};
 ghost use Rattle.alg_model.specs.Matrices.{IsColumn};

@@ -39,10 +39,12 @@ closure_bounds s d w (of_member h) = ⊎_elim
   where
     past : slice_index_or s d false ≡ false → Holds s d → ⊥
     past e h = absurd (no (subst IsTrue e h))
+
     no : IsTrue false → ⊥
     no t = search
 closure_bounds s d w (of_gcd {a} {b} p q i) =
     let n = closure_bounds s a w p in
-    let m : d ≤ a = le_of_dvd n.0 i.0 in
-    (⊎_elim (λ z. z) (λ z. absurd (let e : a ≡ 0 = zero_divides a (subst (λ t. t ∣ a) (let k : d ≡ 0 = omega arith in k) i.0) in omega (arith, n.0))) (cases_lt 0 d),
-    omega (arith, n.1))
+    let m : d ≤ a = le_of_dvd n.0 i.0 in (
+      ⊎_elim (λ z. z) (λ z. absurd (let e : a ≡ 0 = zero_divides a (subst (λ t. t ∣ a) (let k : d ≡ 0 = omega arith in k) i.0) in omega (arith, n.0))) (cases_lt 0 d),
+      omega (arith, n.1),
+    )

@@ -1,6 +1,8 @@
-//! Sets of degrees, and their closure under greatest common divisors, in fixed room and without allocation.
+//! Sets of degrees, and their closure under greatest common divisors, in fixed room and without
+//! allocation.
 //!
-//! The subfields of a finite field that a lattice stores have such degrees; two of them meet in a field of degree gcd.
+//! The subfields of a finite field that a lattice stores have such degrees; two of them meet in a
+//! field of degree gcd.
 #![tactic(auto)]
 
 mod gcds;

@@ -49,9 +49,11 @@ impl DegreeSet {
         (d as usize) < PLACES && self.held[d as usize]
     }
 
-    /// The least set that holds the degrees of this one, and with any two of its own their greatest common divisor.
+    /// The least set that holds the degrees of this one, and with any two of its own their greatest
+    /// common divisor.
     ///
-    /// A degree stands in it exactly where it is the greatest common divisor of all members that it divides.
+    /// A degree stands in it exactly where it is the greatest common divisor of all members that it
+    /// divides.
     pub fn closure(&self) -> DegreeSet
         ensures { (d : ℕ) → Holds result d ↔ InClosure self.now d }
     {

@@ -1,5 +1,6 @@
 -- What a contract sees of a `Poly`.
---     Polynomial     a characteristic, and the coefficients of a polynomial over the residues modulo it
+--     Polynomial     a characteristic, and the coefficients of a polynomial over the residues
+--         modulo it
 --     IsPoly f       f is such a polynomial, of at most MAX_POLY coefficients
 use Rattle.std.specs.Prelude.{◌≤◌, ℕ, List, length}
 use Rattle.alg_model.specs.Coefficients.{residues, IsCharacteristic}

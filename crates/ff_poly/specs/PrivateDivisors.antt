@@ -1,6 +1,7 @@
 -- How a polynomial is made monic, and stands in a row. No public clause cites this module.
 --     IsNormalizer p f k     k is the constant polynomial of the inverse of f's last coefficient
---     IsRowOf w p row n      a row of w residues, of which the first n are a polynomial and the others zero
+--     IsRowOf w p row n      a row of w residues, of which the first n are a polynomial and the
+--         others zero
 use Rattle.std.specs.Prelude.{◌≡◌, ℕ, ◌<◌, ◌≤◌, List, [], ◌∷◌, length, take, All}
 use Rattle.alg_model.specs.Coefficients.{mod_ops}
 use Rattle.alg_model.specs.Polynomials.{trim, leading}

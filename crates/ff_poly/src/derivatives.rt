@@ -10,7 +10,8 @@ impl Poly {
     /// The derivative.
     pub fn derivative(&self) -> Poly
         ensures prime { result.prime ≡ self.now.prime }
-        ensures derivative { result.coefficients ≡ derivative (mod_ops self.now.prime) self.now.coefficients }
+        ensures derivative { result.coefficients
+            ≡ derivative (mod_ops self.now.prime) self.now.coefficients }
     {
         let coefficients = self.coefficients();
         let p = self.prime();

@@ -11,16 +11,18 @@ use crate::{MAX_POLY, Poly, Prime};
 use ff_residues::Sums;
 
 impl Poly {
-    /// The quotient and the remainder by `d`, which isn't 0: the remainder has fewer coefficients than `d`.
+    /// The quotient and the remainder by `d`, which isn't 0: the remainder has fewer coefficients
+    /// than `d`.
     ///
-    /// The division of polynomials from the highest place down (Knuth, The Art of Computer Programming 2, section 4.6.1,
-    /// algorithm D).
+    /// The division of polynomials from the highest place down (Knuth, The Art of Computer
+    /// Programming 2, section 4.6.1, algorithm D).
     pub fn divrem(&self, d: &Poly) -> (Poly, Poly)
         requires same_prime { self.now.prime ≡ d.now.prime }
         requires not_zero { d.now.coefficients ≢ [] }
         ensures quotient { result.0.prime ≡ self.now.prime }
         ensures remainder { result.1.prime ≡ self.now.prime }
-        ensures division { IsDivision (residues self.now.prime) self.now.coefficients d.now.coefficients
+        ensures division { IsDivision (residues self.now.prime) self.now.coefficients
+            d.now.coefficients
             result.0.coefficients result.1.coefficients }
         ensures whole { IsPoly self.now × IsPoly d.now }
         ensures short { length result.0.coefficients
@@ -44,7 +46,8 @@ fn division_of(p: Prime, f: &[u8], d: &[u8]) -> (Poly, Poly)
     requires residues { All (λ x. x < p) d.now }
     ensures quotient { result.0.prime ≡ p }
     ensures remainder { result.1.prime ≡ p }
-    ensures division { IsDivision (residues p) f.now d.now result.0.coefficients result.1.coefficients }
+    ensures division { IsDivision (residues p) f.now d.now result.0.coefficients
+        result.1.coefficients }
 {
     let len = f.len();
     if len <= 16 {
@@ -70,7 +73,8 @@ fn division_in<const W: usize, const D: usize>(p: Prime, f: &[u8], d: &[u8]) -> 
     requires residues { All (λ x. x < p) d.now }
     ensures quotient { result.0.prime ≡ p }
     ensures remainder { result.1.prime ≡ p }
-    ensures division { IsDivision (residues p) f.now d.now result.0.coefficients result.1.coefficients }
+    ensures division { IsDivision (residues p) f.now d.now result.0.coefficients
+        result.1.coefficients }
 {
     let _number = p.number();
     let mut rest = row_of::<W>(f);
@@ -82,7 +86,8 @@ fn division_in<const W: usize, const D: usize>(p: Prime, f: &[u8], d: &[u8]) -> 
     )
 }
 
-// Takes multiples of d off the places in rest, `steps` many and the highest first, and notes their factors in quotient.
+// Takes multiples of d off the places in rest, `steps` many and the highest first, and notes their
+// factors in quotient.
 #[inline(always)]
 pub(crate) fn divide<const W: usize, const D: usize>(
     p: Prime,
@@ -104,7 +109,8 @@ pub(crate) fn divide<const W: usize, const D: usize>(
     ensures residues { All (λ x. x < p) quotient.new }
     ensures rest { All (λ x. x < p) rest.new }
     ensures smaller { (k : ℕ) → length d.now ≤ k + 1 → slice_index rest.new k ≡ 0 }
-    ensures division { (k : ℕ) → (slice_index (product (mod_ops p) quotient.new d.now) k + slice_index rest.new k) % p
+    ensures division { (k : ℕ)
+        → (slice_index (product (mod_ops p) quotient.new d.now) k + slice_index rest.new k) % p
         ≡ slice_index rest.old k % p }
 {
     let _number = p.number();

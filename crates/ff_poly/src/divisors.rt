@@ -31,22 +31,26 @@ impl Poly {
     pub fn gcd(&self, b: &Poly) -> Poly
         requires { self.now.prime ≡ b.now.prime }
         ensures prime { result.prime ≡ self.now.prime }
-        ensures gcd { IsGreatestCommonDivisor (residues self.now.prime) self.now.coefficients b.now.coefficients
+        ensures gcd { IsGreatestCommonDivisor (residues self.now.prime) self.now.coefficients
+            b.now.coefficients
             result.coefficients }
     {
         gcd_of(self.prime(), self.coefficients(), b.coefficients())
     }
 
-    /// The greatest common divisor of this as `a` and of `b`, and how they combine to it: `u * a + w * b = g`.
+    /// The greatest common divisor of this as `a` and of `b`, and how they combine to it: `u * a +
+    /// w * b = g`.
     ///
-    /// The extended algorithm of Euclid: each remainder is kept with its own `u` and `w`. They are short: `u` has no more
-    /// coefficients than `b` has beyond those of `g`, or it is 1, and so has `w` for `a`.
+    /// The extended algorithm of Euclid: each remainder is kept with its own `u` and `w`. They are
+    /// short: `u` has no more coefficients than `b` has beyond those of `g`, or it is 1, and so has
+    /// `w` for `a`.
     pub fn bezout(&self, b: &Poly) -> Bezout
         requires same_prime { self.now.prime ≡ b.now.prime }
         requires not_both_zero { 0 < length self.now.coefficients + length b.now.coefficients }
         ensures primes { (result.g.prime ≡ self.now.prime) × (result.u.prime ≡ self.now.prime)
             × (result.w.prime ≡ self.now.prime) }
-        ensures gcd { IsGreatestCommonDivisor (residues self.now.prime) self.now.coefficients b.now.coefficients
+        ensures gcd { IsGreatestCommonDivisor (residues self.now.prime) self.now.coefficients
+            b.now.coefficients
             result.g.coefficients }
         ensures identity { let o = mod_ops self.now.prime in
             poly_sum o (poly_product o result.u.coefficients self.now.coefficients)
@@ -75,10 +79,12 @@ impl Poly {
         first.made_monic()
     }
 
-    // This times the inverse of its last coefficient, which is the greatest common divisor with 0; 0 as it is.
+    // This times the inverse of its last coefficient, which is the greatest common divisor with 0;
+    // 0 as it is.
     fn made_monic(&self) -> Poly
         ensures prime { result.prime ≡ self.now.prime }
-        ensures gcd { IsGreatestCommonDivisor (residues self.now.prime) self.now.coefficients [] result.coefficients }
+        ensures gcd { IsGreatestCommonDivisor (residues self.now.prime) self.now.coefficients []
+            result.coefficients }
     {
         if self.coefficients().is_empty() {
             return self.copy();
@@ -101,7 +107,8 @@ impl Poly {
     }
 }
 
-// The greatest common divisor of the polynomials with these coefficients, in rows as wide as the longer.
+// The greatest common divisor of the polynomials with these coefficients, in rows as wide as the
+// longer.
 fn gcd_of(p: Prime, a: &[u8], b: &[u8]) -> Poly
     requires room { (length a.now ≤ MAX_POLY) × (length b.now ≤ MAX_POLY) }
     requires first { IsPolynomial (residues p) a.now }
@@ -161,7 +168,8 @@ fn remainder<const W: usize, const D: usize>(
     requires not_zero { 0 < n }
     ensures len { length result ≡ W }
     ensures residues { All (λ x. x < p) result }
-    ensures division { (q : List ℕ) × IsDivision (residues p) (take m first.now) (take n second.now) q (trim (mod_ops p) result) }
+    ensures division { (q : List ℕ)
+        × IsDivision (residues p) (take m first.now) (take n second.now) q (trim (mod_ops p) result) }
 {
     let _number = p.number();
     let mut rest = *first;
@@ -177,9 +185,11 @@ fn remainder<const W: usize, const D: usize>(
 }
 
 impl Bezout {
-    // The remainder of this by `d`, with what it is made of: less q times what the divisor is made of.
+    // The remainder of this by `d`, with what it is made of: less q times what the divisor is made
+    // of.
     fn rest(&self, d: &Bezout) -> Bezout
-        requires primes { (self.now.u.prime ≡ self.now.g.prime) × (self.now.w.prime ≡ self.now.g.prime)
+        requires primes { (self.now.u.prime ≡ self.now.g.prime)
+            × (self.now.w.prime ≡ self.now.g.prime)
             × (d.now.g.prime ≡ self.now.g.prime) × (d.now.u.prime ≡ self.now.g.prime)
             × (d.now.w.prime ≡ self.now.g.prime) }
         requires not_zero { d.now.g.coefficients ≢ [] }
@@ -190,10 +200,13 @@ impl Bezout {
         ensures primes { (result.g.prime ≡ self.now.g.prime) × (result.u.prime ≡ self.now.g.prime)
             × (result.w.prime ≡ self.now.g.prime) }
         ensures division { let o = mod_ops self.now.g.prime in
-            (q : List ℕ) × IsDivision (residues self.now.g.prime) self.now.g.coefficients d.now.g.coefficients q
+            (q : List ℕ) × IsDivision (residues self.now.g.prime) self.now.g.coefficients
+            d.now.g.coefficients q
             result.g.coefficients
-            × (result.u.coefficients ≡ poly_difference o self.now.u.coefficients (poly_product o q d.now.u.coefficients))
-            × (result.w.coefficients ≡ poly_difference o self.now.w.coefficients (poly_product o q d.now.w.coefficients)) }
+            × (result.u.coefficients
+            ≡ poly_difference o self.now.u.coefficients (poly_product o q d.now.u.coefficients))
+            × (result.w.coefficients
+            ≡ poly_difference o self.now.w.coefficients (poly_product o q d.now.w.coefficients)) }
     {
         let (quotient, rest) = self.g.divrem(&d.g);
         Bezout {
@@ -205,9 +218,11 @@ impl Bezout {
 
     // The monic multiple, with the same multiple of what it is made of.
     fn made_monic(&self) -> Bezout
-        requires primes { (self.now.u.prime ≡ self.now.g.prime) × (self.now.w.prime ≡ self.now.g.prime) }
+        requires primes { (self.now.u.prime ≡ self.now.g.prime)
+            × (self.now.w.prime ≡ self.now.g.prime) }
         requires not_zero { self.now.g.coefficients ≢ [] }
-        requires room { (length self.now.u.coefficients ≤ MAX_POLY) × (length self.now.w.coefficients ≤ MAX_POLY) }
+        requires room { (length self.now.u.coefficients ≤ MAX_POLY)
+            × (length self.now.w.coefficients ≤ MAX_POLY) }
         ensures primes { (result.g.prime ≡ self.now.g.prime) × (result.u.prime ≡ self.now.g.prime)
             × (result.w.prime ≡ self.now.g.prime) }
         ensures multiple { let o = mod_ops self.now.g.prime in

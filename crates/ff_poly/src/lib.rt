@@ -1,4 +1,5 @@
-//! Residues modulo a small prime, and polynomials over them, in a fixed room and without allocation.
+//! Residues modulo a small prime, and polynomials over them, in a fixed room and without
+//! allocation.
 //!
 //! Coefficients stand lowest first. The last one isn't zero, so that the zero polynomial has none.
 #![tactic(auto)]

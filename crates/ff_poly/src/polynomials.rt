@@ -25,7 +25,8 @@ impl Model for Poly {
 
     ghost view = { λ a. record { prime = a.prime; coefficients = a.coefficients.items } };
 
-    ghost invariant = { λ a. IsPoly (record { prime = a.prime; coefficients = a.coefficients.items }) };
+    ghost invariant = { λ a. IsPoly
+        (record { prime = a.prime; coefficients = a.coefficients.items }) };
 }
 
 impl Default for Poly {
@@ -52,7 +53,8 @@ impl Poly {
     /// `None` where `c` has more than `MAX_POLY` numbers or one that isn't below `p`.
     pub fn of_slice(p: Prime, c: &[u8]) -> Option<Poly>
         ensures some { IsSome result ↔ ((length c.now ≤ MAX_POLY) × All (λ x. x < p) c.now) }
-        ensures made { IfSome result (λ f. (f.prime ≡ p) × (f.coefficients ≡ trim (mod_ops p) c.now)) }
+        ensures made { IfSome result (λ f. (f.prime ≡ p)
+            × (f.coefficients ≡ trim (mod_ops p) c.now)) }
     {
         if c.len() > MAX_POLY || !are_residues(p, c) {
             return None;
@@ -109,7 +111,8 @@ impl Poly {
         }
     }
 
-    /// The order of polynomials: the number of coefficients first, then from the highest place down.
+    /// The order of polynomials: the number of coefficients first, then from the highest place
+    /// down.
     pub fn compare(&self, b: &Poly) -> Ordering
         requires { self.now.prime ≡ b.now.prime }
         ensures { result ≡ order_by nat_cmp self.now.coefficients b.now.coefficients }

@@ -7,16 +7,19 @@ ghost use Rattle.alg_model.specs.Factors.{IsDivision};
 use crate::{MAX_POLY, Poly};
 
 impl Poly {
-    /// The remainder of the `e`-th power by `f`, whose degree is 1 to `MAX_POLY / 2`; the power for `e = 0` is 1.
+    /// The remainder of the `e`-th power by `f`, whose degree is 1 to `MAX_POLY / 2`; the power for
+    /// `e = 0` is 1.
     ///
-    /// By squaring, from the highest binary digit of `e` down (Knuth, The Art of Computer Programming 2, section 4.6.3).
+    /// By squaring, from the highest binary digit of `e` down (Knuth, The Art of Computer
+    /// Programming 2, section 4.6.3).
     pub fn powmod(&self, e: u64, f: &Poly) -> Poly
         requires same_prime { self.now.prime ≡ f.now.prime }
         requires not_constant { 1 < length f.now.coefficients }
         requires room { length f.now.coefficients ≤ MAX_POLY / 2 + 1 }
         ensures prime { result.prime ≡ self.now.prime }
         ensures power { (q : List ℕ) × IsDivision (residues self.now.prime)
-            (poly_power (mod_ops self.now.prime) self.now.coefficients e) f.now.coefficients q result.coefficients }
+            (poly_power (mod_ops self.now.prime) self.now.coefficients e) f.now.coefficients q
+            result.coefficients }
     {
         let (_, base) = self.divrem(f);
         base.power_of_reduced(e, f)
@@ -30,7 +33,8 @@ impl Poly {
         requires reduced { length self.now.coefficients < length f.now.coefficients }
         ensures prime { result.prime ≡ self.now.prime }
         ensures power { (q : List ℕ) × IsDivision (residues self.now.prime)
-            (poly_power (mod_ops self.now.prime) self.now.coefficients e) f.now.coefficients q result.coefficients }
+            (poly_power (mod_ops self.now.prime) self.now.coefficients e) f.now.coefficients q
+            result.coefficients }
     {
         let p = self.prime();
         let _same = f.prime();
@@ -54,7 +58,8 @@ impl Poly {
         requires second { length b.now.coefficients < length f.now.coefficients }
         ensures prime { result.prime ≡ self.now.prime }
         ensures product { (q : List ℕ) × IsDivision (residues self.now.prime)
-            (poly_product (mod_ops self.now.prime) self.now.coefficients b.now.coefficients) f.now.coefficients q
+            (poly_product (mod_ops self.now.prime) self.now.coefficients b.now.coefficients)
+            f.now.coefficients q
             result.coefficients }
     {
         let (_, rest) = self.mul(b).divrem(f);

@@ -12,7 +12,8 @@ use ff_residues::Sums;
 impl Poly {
     /// The product.
     ///
-    /// The factors have together at most `MAX_POLY + 1` coefficients, so that their product has at most `MAX_POLY`.
+    /// The factors have together at most `MAX_POLY + 1` coefficients, so that their product has at
+    /// most `MAX_POLY`.
     pub fn mul(&self, b: &Poly) -> Poly
         requires same_prime { self.now.prime ≡ b.now.prime }
         requires room { length self.now.coefficients + length b.now.coefficients ≤ MAX_POLY + 1 }
@@ -74,7 +75,8 @@ fn product_places<const W: usize, const D: usize>(p: Prime, a: &[u8], b: &[u8]) 
     requires second { All (λ x. x < p) b.now }
     ensures len { length result ≡ W }
     ensures residues { All (λ x. x < p) result }
-    ensures places { (k : ℕ) → slice_index result k % p ≡ slice_index (product (mod_ops p) a.now b.now) k }
+    ensures places { (k : ℕ)
+        → slice_index result k % p ≡ slice_index (product (mod_ops p) a.now b.now) k }
 {
     let _number = p.number();
     let padded = padded::<W, D>(p, b);

@@ -1,5 +1,7 @@
--- What a contract sees of `Sums`: residues modulo a prime, kept as sums of products that aren't reduced yet.
---     SumRow              a characteristic, the sums, and how many products more each of them has room for
+-- What a contract sees of `Sums`: residues modulo a prime, kept as sums of products that aren't
+-- reduced yet.
+--     SumRow              a characteristic, the sums, and how many products more each of them has
+--         room for
 --     residue_at s k      the residue at place k; zero past the end
 --     IsSumRow w s        there are w sums, and each has room for so many products below 2^15
 --     sum_below n f             f 0 + .. + f (n - 1)

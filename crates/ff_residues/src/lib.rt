@@ -1,4 +1,5 @@
-//! Residues modulo a small prime, and rows of them to which multiples of rows are added, in fixed room and without allocation.
+//! Residues modulo a small prime, and rows of them to which multiples of rows are added, in fixed
+//! room and without allocation.
 #![tactic(auto)]
 
 ghost use Rattle.std.specs.Prelude.{◌≡◌};

@@ -63,10 +63,12 @@ pub(crate) fn add_products<const W: usize>(
 )
     requires width { W ≤ MAX_WIDTH }
     requires within { start + W ≤ length list.now }
-    requires fits { (k : ℕ) → k < W → slice_index sums.old k + factor * slice_index list.now (start + k) < 2 ^ 15 }
+    requires fits { (k : ℕ) → k < W
+        → slice_index sums.old k + factor * slice_index list.now (start + k) < 2 ^ 15 }
     ensures len { length sums.new ≡ W }
     ensures sums { (k : ℕ) → k < W
-        → slice_index sums.new k ≡ slice_index sums.old k + factor * slice_index list.now (start + k) }
+        → slice_index sums.new k
+        ≡ slice_index sums.old k + factor * slice_index list.now (start + k) }
 {
     for k in 0..W {
         sums[k] += factor as u16 * list[start + k] as u16;

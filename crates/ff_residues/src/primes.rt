@@ -18,9 +18,10 @@ pub fn characteristics_in_order()
 
 /// One of the characteristics: a prime number below 64.
 ///
-/// With the number `p` stands what takes the place of a division by it (Granlund and Montgomery 1994): for `2^s < p <= 2^(s + 1)`
-/// and `m = 2^(16 + s) / p + 1` the quotient of each `x` below `2^15` is `x * m / 2^(16 + s)`, since `m * p` is above `2^(16 + s)`
-/// by at most `p`, and `x` times that is below `2^(16 + s)`.
+/// With the number `p` stands what takes the place of a division by it (Granlund and Montgomery
+/// 1994): for `2^s < p <= 2^(s + 1)` and `m = 2^(16 + s) / p + 1` the quotient of each `x` below
+/// `2^15` is `x * m / 2^(16 + s)`, since `m * p` is above `2^(16 + s)` by at most `p`, and `x`
+/// times that is below `2^(16 + s)`.
 #[derive(Clone, Copy, PartialEq, Eq)]
 pub struct Prime {
     number: u16,
@@ -40,7 +41,8 @@ impl Model for Prime {
 
     ghost invariant = { λ a. IsKept a.number a.reciprocal a.shift a.run };
 
-    ghost inverse = { λ n. record { number = n; reciprocal = reciprocal_of n; shift = shift_of n; run = run_of n } };
+    ghost inverse = { λ n. record
+        { number = n; reciprocal = reciprocal_of n; shift = shift_of n; run = run_of n } };
 
     ghost inverse_ok = { λ a h i. record {
       number = a.number;
@@ -156,8 +158,8 @@ impl Prime {
 
     /// The inverse of a residue that isn't 0.
     ///
-    /// With `p = q * x + r`, where `1 < x < p`, the residue `-q` takes `x` to the smaller `r`, which isn't 0 as `p` is
-    /// prime. So some product of such factors takes `a` to 1.
+    /// With `p = q * x + r`, where `1 < x < p`, the residue `-q` takes `x` to the smaller `r`,
+    /// which isn't 0 as `p` is prime. So some product of such factors takes `a` to 1.
     pub fn inv(self, a: u8) -> u8
         requires residue { a < self }
         requires not_zero { a ≢ 0 }

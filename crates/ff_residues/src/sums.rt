@@ -9,7 +9,8 @@ use std::marker::Model;
 
 /// `W` residues modulo a prime, to which multiples of rows of residues are added.
 ///
-/// They are kept as sums of products below 2^15, and all are reduced only where one product more might not fit.
+/// They are kept as sums of products below 2^15, and all are reduced only where one product more
+/// might not fit.
 #[derive(Clone, Copy)]
 pub struct Sums<const W: usize> {
     prime: Prime,
@@ -85,15 +86,16 @@ impl<const W: usize> Sums<W> {
         requires rows { All (IsRowOf self.old.prime W) rows.now }
         ensures prime { self.new.prime ≡ self.old.prime }
         ensures sums { (k : ℕ) → k < W → residue_at self.new k
-            ≡ (residue_at self.old k + row_sum (length factors.now) factors.now rows.now k) % self.old.prime }
+            ≡ (residue_at self.old k + row_sum (length factors.now) factors.now rows.now k) %
+            self.old.prime }
     {
         for i in 0..factors.len() {
             self.add(factors[i], &rows[i], 0);
         }
     }
 
-    /// Adds the `W` residues of a list that stand from `start` on times the first factor, those that stand one place before
-    /// times the second, and so on.
+    /// Adds the `W` residues of a list that stand from `start` on times the first factor, those
+    /// that stand one place before times the second, and so on.
     #[inline(always)]
     pub fn add_shifted(&mut self, factors: &[u8], list: &[u8], start: usize)
         requires width { W ≤ MAX_WIDTH }
@@ -103,7 +105,8 @@ impl<const W: usize> Sums<W> {
         requires residues { All (λ x. x < self.old.prime) list.now }
         ensures prime { self.new.prime ≡ self.old.prime }
         ensures sums { (k : ℕ) → k < W → residue_at self.new k
-            ≡ (residue_at self.old k + shifted_sum (length factors.now) factors.now list.now (start + k)) % self.old.prime }
+            ≡ (residue_at self.old k + shifted_sum (length factors.now) factors.now list.now
+            (start + k)) % self.old.prime }
     {
         for i in 0..factors.len() {
             self.add(factors[i], list, start - i);

@@ -56,7 +56,8 @@ fn added(mut sums: Sums<8>, list: &[u8], count: u16) -> Sums<8>
     sums
 }
 
-// 20,000 products 60 * 59 modulo 61 and one residue more: by hand, 20,000 * 60 * 59 + 7 = 70,800,007 = 61 * 1,160,655 + 52.
+// 20,000 products 60 * 59 modulo 61 and one residue more: by hand, 20,000 * 60 * 59 + 7 =
+// 70,800,007 = 61 * 1,160,655 + 52.
 #[test]
 fn sums(rt: HostRuntime) {
     let p = Prime::of(61).expect(&rt, "a characteristic");

@@ -75,7 +75,8 @@ impl Digits {
 fn push_number(numbers: &mut ArrayVec<u8, MAX_DIGITS>, part: &[u8]) -> Option<()>
     ensures { MatchOption result
         ((array_vec_len numbers.old ≡ MAX_DIGITS) ⊎ ((n : ℕ) → n < 256 → part.now ≢ decimal n))
-        (λ _. (n : ℕ) × (n < 256) × (part.now ≡ decimal n) × (array_vec_len numbers.old < MAX_DIGITS)
+        (λ _. (n : ℕ) × (n < 256) × (part.now ≡ decimal n)
+        × (array_vec_len numbers.old < MAX_DIGITS)
         × (numbers.new.items ≡ numbers.old.items ++ n ∷ [])) }
 {
     match read_number(part, u64::from(u8::MAX)) {

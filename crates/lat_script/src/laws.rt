@@ -2,10 +2,10 @@
 
 ghost use Rattle.lat_script.specs.Theorems.{SpelledTexts, TakenLines, OneScript, OneFault, NeverBoth, ScriptOrFault, PrintableHeader, PrintableCommand, Limits, FaultKinds};
 
-/// What a text spells, without going line by line: no line has more than `MAX_LINE` bytes, the lines
-/// that aren't passed over are the header and then one line a command, with that command's words,
-/// and there are at most `MAX_COMMANDS` commands. Each text of which this holds spells the script,
-/// and no other text does.
+/// What a text spells, without going line by line: no line has more than `MAX_LINE` bytes, the
+/// lines that aren't passed over are the header and then one line a command, with that command's
+/// words, and there are at most `MAX_COMMANDS` commands. Each text of which this holds spells the
+/// script, and no other text does.
 pub fn spelled_texts()
     ensures texts { SpelledTexts }
     ensures taken { TakenLines }

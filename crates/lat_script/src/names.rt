@@ -9,8 +9,9 @@ use std::marker::Model;
 /// The most bytes of a name.
 pub const MAX_NAME: usize = 32;
 
-/// The name of a field, of 1 to 32 bytes: a declared name, which is a letter and then letters, digits
-/// or `_`, or a made name, which is `_` and a number from 0 to 199. Upper and lower case differ.
+/// The name of a field, of 1 to 32 bytes: a declared name, which is a letter and then letters,
+/// digits or `_`, or a made name, which is `_` and a number from 0 to 199. Upper and lower case
+/// differ.
 #[derive(Drop)]
 pub struct FieldName {
     bytes: ArrayVec<u8, MAX_NAME>,

@@ -135,9 +135,9 @@ fn read(alloc: Global, bytes: &[u8]) -> Result<Script, ScriptFault>
     }
 }
 
-/// The one script that the bytes spell, or their first fault: the first bad line, counted from 1 over
-/// all lines, and the kind of its fault. One pass over the bytes, which aren't copied. Memory is
-/// taken for the commands alone.
+/// The one script that the bytes spell, or their first fault: the first bad line, counted from 1
+/// over all lines, and the kind of its fault. One pass over the bytes, which aren't copied. Memory
+/// is taken for the commands alone.
 pub fn parse(alloc: Global, bytes: &[u8]) -> Result<Script, ScriptFault>
     requires { length bytes.now ≤ MAX_SCRIPT }
 

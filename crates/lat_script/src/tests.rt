@@ -101,7 +101,8 @@ fn limits(rt: HostRuntime) -> Result<(), Fail> {
     assert_eq!(rt; reading(&rt, rt.alloc(), &longest)?, (0, 0, 0));
     let longer = repeated(rt.alloc(), b"#", MAX_LINE + 1)?;
     assert_eq!(rt; reading(&rt, rt.alloc(), &longer)?, (2, 2, 0));
-    // a line that is too long comes before the lack of a header, and is measured where it is passed over
+    // a line that is too long comes before the lack of a header, and is measured where it is passed
+    // over
     let spaces = [b' '; MAX_LINE + 1];
     assert_eq!(rt; reading(&rt, rt.alloc(), &spaces)?, (1, 2, 0));
     assert_eq!(rt; reading(&rt, rt.alloc(), &spaces[1..])?, (1, 1, 0));

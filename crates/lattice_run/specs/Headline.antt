@@ -28,8 +28,8 @@ pub record Headline (words : List (List ℕ)) (source source' sink sink' : Strea
   -- Status 4: the words are `solo`, a read failed, and nothing was appended.
   pub read_failed : status ≡ READ_FAILED → IsSolo words
       × (source'.faults ≡ one_more source.faults) × Keeps sink.bytes sink'.bytes
-  -- Status 5: a write failed, and the beginning of the text of the answer was appended, and not all of
-  -- it.
+  -- Status 5: a write failed, and the beginning of the text of the answer was appended, and not all
+  -- of it.
   pub write_failed : status ≡ WRITE_FAILED → (sink'.faults ≡ one_more sink.faults)
       × (input : List ℕ) × (answer : ℕ) × (text : List ℕ)
       × IsInput words input source.bytes source'.bytes × Answers words input answer text

@@ -32,7 +32,8 @@ fn next(p: u8, c: &mut [u8]) -> bool {
     false
 }
 
-// 1 where the polynomial is irreducible, with a certificate that holds; 0 where it is not. Trial division finds the same.
+// 1 where the polynomial is irreducible, with a certificate that holds; 0 where it is not. Trial
+// division finds the same.
 fn judged(rt: &impl Abort, p: u32, c: &[u8]) -> u32 {
     let prime = Prime::of(p).expect(rt, "a characteristic");
     let f = Poly::of_slice(prime, c).expect(rt, "residues, and few enough");

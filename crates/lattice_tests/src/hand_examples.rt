@@ -3,7 +3,8 @@ use crate::trial_division::least_factor;
 use ff_poly::{Poly, Prime};
 use std::process::Abort;
 
-// The least factor of the polynomial with these coefficients over p is the expected one; none where that is empty.
+// The least factor of the polynomial with these coefficients over p is the expected one; none where
+// that is empty.
 fn expect(rt: &impl Abort, p: u32, coefficients: &[u8], factor: &[u8]) {
     let prime = Prime::of(p).expect(rt, "a characteristic");
     let f = Poly::of_slice(prime, coefficients).expect(rt, "residues");

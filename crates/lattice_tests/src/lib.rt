@@ -1,4 +1,5 @@
-//! Tests that cross crates, and the plain program that they compare with: the least factor by trial division.
+//! Tests that cross crates, and the plain program that they compare with: the least factor by trial
+//! division.
 #![tactic(auto)]
 
 #[cfg(test)]

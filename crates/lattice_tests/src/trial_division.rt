@@ -1,4 +1,5 @@
-//! Reducibility by trial division: every monic polynomial of smaller degree is tried, in the order of polynomials.
+//! Reducibility by trial division: every monic polynomial of smaller degree is tried, in the order
+//! of polynomials.
 ghost use Rattle.std.specs.Prelude.{◌≡◌, ℕ, ◌+◌, ◌*◌, ◌-◌, ◌^◌, ◌<◌, ◌≤◌, ◌≢◌, ◌↔◌, [], length, All, IsTrue, IfSome, IfNone};
 ghost use Rattle.std.specs.Ordering.{nat_cmp};
 ghost use Rattle.alg_model.specs.Coefficients.{residues};
@@ -109,8 +110,8 @@ pub fn can_try(f: &Poly) -> bool
     has_few_residues(f.prime(), f.coefficients().len().saturating_sub(1))
 }
 
-/// The least factor of a polynomial of degree 1 or more with at most `TRIAL_LIMIT` residues; `None` where it is
-/// irreducible.
+/// The least factor of a polynomial of degree 1 or more with at most `TRIAL_LIMIT` residues; `None`
+/// where it is irreducible.
 ///
 /// Every polynomial of smaller degree is tried, in the order of their numbers in base p.
 pub fn least_factor(f: &Poly) -> Option<Poly>
@@ -118,7 +119,8 @@ pub fn least_factor(f: &Poly) -> Option<Poly>
     requires small { f.now.prime ^ degree f.now.coefficients ≤ TRIAL_LIMIT }
     ensures irreducible { IfNone result (IsIrreducible (residues f.now.prime) f.now.coefficients) }
     ensures prime { IfSome result (λ g. g.prime ≡ f.now.prime) }
-    ensures factor { IfSome result (λ g. IsLeastFactor (residues f.now.prime) nat_cmp f.now.coefficients g.coefficients) }
+    ensures factor { IfSome result
+        (λ g. IsLeastFactor (residues f.now.prime) nat_cmp f.now.coefficients g.coefficients) }
 {
     let p = f.prime();
     let end = power_of(p, f.coefficients().len() - 1);
