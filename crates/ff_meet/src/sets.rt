@@ -1,5 +1,5 @@
 //! Sets of degrees.
-ghost use Rattle.std.specs.Prelude.{◌≡◌, ℕ, ◌<◌, ◌≤◌, ◌↔◌, List, Bool, false, length, All, Contains, IsTrue, slice_index_or};
+ghost use Rattle.std.specs.Prelude.{◌≡◌, ℕ, ◌+◌, ◌<◌, ◌≤◌, ◌↔◌, List, Bool, false, length, All, Contains, IsTrue, slice_index_or};
 ghost use Rattle.ff_meet.specs.Degrees.{Holds, InClosure, IsDegreeSet};
 ghost use Rattle.ff_meet.specs.PrivateCommon.{IsCommon};
 
@@ -35,7 +35,7 @@ impl DegreeSet {
         requires { All (λ d. (0 < d) × (d ≤ MAX_DEGREE)) degrees.now }
         ensures { (d : ℕ) → Holds result d ↔ Contains degrees.now d }
     {
-        let mut held = [false; PLACES];
+        let mut held = nothing();
         for d in degrees {
             held[*d as usize] = true;
         }
@@ -57,7 +57,8 @@ impl DegreeSet {
     pub fn closure(&self) -> DegreeSet
         ensures { (d : ℕ) → Holds result d ↔ InClosure self.now d }
     {
-        let mut held = [false; PLACES];
+        let _held = &self.held;
+        let mut held = nothing();
         for d in 1..PLACES {
             held[d] = self.common(d) == d;
         }
@@ -69,7 +70,7 @@ impl DegreeSet {
         ensures { (d : ℕ) → Holds result d ↔ (InClosure self.now d × (Holds self.now d → ⊥)) }
     {
         let closure = self.closure();
-        let mut held = [false; PLACES];
+        let mut held = nothing();
         for d in 1..PLACES {
             held[d] = closure.held[d] && !self.held[d];
         }
@@ -89,4 +90,12 @@ impl DegreeSet {
         }
         common
     }
+}
+
+// A table that holds no degree.
+fn nothing() -> [bool; PLACES]
+    ensures count { length result ≡ MAX_DEGREE + 1 }
+    ensures none { (d : ℕ) → Holds result d → ⊥ }
+{
+    [false; PLACES]
 }
