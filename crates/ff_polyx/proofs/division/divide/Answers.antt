@@ -28,7 +28,7 @@ loop-at-preserved c =
     let here : c.loop-at.at ≡ at + 1 = omega arith in
     let h = c.loop-at.invariant in
     let known : Divided (field_values K) degree (at + 1) c.loop-at.quotient d c.loop-at.rest
-        c.args.rest.now =
+    c.args.rest.now =
     subst (λ n. Divided (field_values K) degree n c.loop-at.quotient d c.loop-at.rest
     c.args.rest.now) here h.known in
     record {
