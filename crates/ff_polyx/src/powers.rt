@@ -9,8 +9,8 @@ use ff_field::Field;
 use ff_poly::MAX_DEGREE;
 
 impl PolyX {
-    /// The remainder of the `e`-th power of `a` by `f`, whose degree is 1 to `MAX_DEGREE`; the power
-    /// for `e = 0` is 1.
+    /// The remainder of the `e`-th power of `a` by `f`, whose degree is 1 to `MAX_DEGREE`; the
+    /// power for `e = 0` is 1.
     ///
     /// By squaring, from the highest binary digit of `e` down (Knuth, The Art of Computer
     /// Programming 2, section 4.6.3).
