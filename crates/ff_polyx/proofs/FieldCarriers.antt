@@ -1,5 +1,4 @@
 -- The values of a small field as a carrier: a field whose elements a test tells.
-use Rattle.alg_model.specs.Coefficients.{residues}
 use Rattle.alg_model.specs.Fields.{IsRing, IsField}
 use Rattle.alg_model.specs.Maps.{Field, field_values}
 use Rattle.alg_rings.specs.Laws.{IsPropositional}

@@ -1,5 +1,5 @@
 -- Lists of what a closure answers.
-use Rattle.std.proofs.Common.{◌≡◌, ◌<◌, List, length, slice_index_or, All, arith}
+use Rattle.std.proofs.Common.{◌<◌, List, length, slice_index_or, All, arith}
 use Rattle.std.specs.Fn.{Shared, FnReturnsAt}
 use denote.Ref.{Bor}
 use Rattle.ff_polyx.specs.Images.{AreImages}

@@ -3,7 +3,7 @@
 use Rattle.std.proofs.Common.{◌≡◌, ◌≢◌, ℕ, zero, suc, ◌+◌, ◌-◌, ◌<◌, ◌≤◌, List, [], ◌∷◌, ◌++◌, length, slice_index_or, take, drop, set, replicate, All, refl, ap, ap₂, sym, ◌∙◌, subst, arith, ⊎_elim, length-take, get_or-take}
 use Rattle.std.proofs.Math.Seq.{take-append_seam}
 use Rattle.std.proofs.lemmas.Bool.{cases_lt, cases_eq}
-use Rattle.std.proofs.lemmas.List.{get_or_past, get_or-set_same, get_or-set_other, get_or-replicate, length-replicate, drop_more}
+use Rattle.std.proofs.lemmas.List.{get_or_past, get_or-set_same, get_or-set_other, get_or-replicate, length-replicate, drop_more, get_or_read_under}
 use Rattle.std.proofs.lemmas.List.Elements.{All-nil, All-take, All-drop, All-append, All-replicate, All-set}
 use Rattle.std.specs.List.{refill}
 use Rattle.alg_model.specs.Coefficients.{Ops, Carrier}
@@ -19,24 +19,11 @@ use Rattle.alg_rings.proofs.Validity.{place_valid, sum_valid, scale_valid, shift
 use Rattle.alg_rings.proofs.LongDivision.{IsStep, division_step}
 use Rattle.alg_rings.proofs.CarrierPolynomials.{trim_same, trimmed_from_leading, sum_at, scale_at, negatives_at, trim_sum_first, trim_product_first}
 
--- a place stands before i, or at i + j
-pub place_cases : (P : ℕ → Type 0) (i k : ℕ) → (k < i → P k) → ((j : ℕ) → P (i + j)) → P k
-place_cases P i k below above =
-    ⊎_elim below (λ h. let e : i + (k - i) ≡ k = omega arith in subst P e (above (k - i)))
-    (cases_lt k i)
-
 -- a slice that was written whole
 pub refill_whole : {A : Type 0} (xs ws : List A) → length ws ≡ length xs
     → refill (length xs) xs ws ≡ ws
 refill_whole xs ws e =
     ap (λ n. take n (ws ++ drop (length ws) xs)) (sym e) ∙ take-append_seam ws (drop (length ws) xs)
-
--- what an index reads, whatever stands past the end
-pub indexed : {A : Type 0} (xs : List A) (k : ℕ) (x d : A) → k < length xs
-    → x ≡ slice_index_or xs k x → slice_index_or xs k d ≡ x
-indexed [] k x d l e = absurd (omega arith)
-indexed (y ∷ xs) zero x d l e = sym e
-indexed (y ∷ xs) (suc k) x d l e = indexed xs k x d (omega arith) e
 
 -- zeros at each place
 pub blank_at : {A : Type 0} (x : A) (n k : ℕ) → slice_index_or (replicate n x) k x ≡ x
@@ -101,7 +88,7 @@ module _ {A : Type 0} {c : Carrier A} (P : IsPropositional c) (R : IsRing c) whe
       → x ≡ slice_index_or g (length g - 1) x → leading c.ops f ≡ x
   last_read f g x e l r =
       leading_at c.ops f ∙ ap (λ xs. slice_index_or xs (length xs - 1) O) (sym e)
-      ∙ indexed g (length g - 1) x O (omega arith) r
+      ∙ sym (get_or_read_under g (length g - 1) (length g) x O r (omega arith) refl)
 
   -- zeros after a list change no place
   pub padded_at : (xs : List A) (n k : ℕ)

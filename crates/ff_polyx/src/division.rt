@@ -25,12 +25,7 @@ impl PolyX {
         let mut rest = padded(field, dividend, dividend.len());
         let steps = (dividend.len() + 1).saturating_sub(divisor.len());
         let mut quotient = padded(field, &[], steps);
-        divide(
-            field,
-            rest.as_mut_slice(),
-            quotient.as_mut_slice(),
-            divisor,
-        );
+        divide(field, rest.as_mut_slice(), quotient.as_mut_slice(), divisor);
         (
             PolyX::of_values(field, quotient.as_slice()),
             PolyX::of_values(field, rest.as_slice()),

@@ -1,8 +1,8 @@
-use Rattle.std.proofs.Common.{◌≡◌, ℕ, ◌+◌, ◌-◌, length, slice_index_or, refl, ap, ◌∙◌, subst, arith}
-use Rattle.std.proofs.lemmas.List.{length-set, get_or_default}
+use Rattle.std.proofs.Common.{◌≡◌, ℕ, ◌+◌, ◌-◌, length, slice_index_or, refl, ap, sym, ◌∙◌, subst, arith}
+use Rattle.std.proofs.lemmas.List.{length-set, get_or_default, get_or_read_under}
 use Rattle.alg_model.specs.Maps.{field_values}
 use Rattle.ff_polyx.proofs.FieldCarriers.{propositional, ring}
-use Rattle.ff_polyx.proofs.ValuePlaces.{indexed, Divided, division_start, division_round}
+use Rattle.ff_polyx.proofs.ValuePlaces.{Divided, division_start, division_round}
 use Rattle.ff_polyx.proofs.division.divide.Goals as goal
 
 pub loop-at-init : goal.loop-at-init
@@ -28,7 +28,7 @@ loop-at-preserved c =
     let here : c.loop-at.at ≡ at + 1 = omega arith in
     let h = c.loop-at.invariant in
     let known : Divided (field_values K) degree (at + 1) c.loop-at.quotient d c.loop-at.rest
-        c.args.rest.now =
+    c.args.rest.now =
     subst (λ n. Divided (field_values K) degree n c.loop-at.quotient d c.loop-at.rest
     c.args.rest.now) here h.known in
     record {
@@ -40,7 +40,8 @@ loop-at-preserved c =
           c.mul-factor.result c.inverse_of-inverse.result known c.requires.values
           c.add_multiple.ensures.values c.inverse_of-inverse.ensures.valid (omega arith)
           (ap (λ x. o.mul x c.inverse_of-inverse.result)
-          (indexed d degree c.index-d-degree.result o.zero (omega arith) c.index-d-degree.is)
+          (sym (get_or_read_under d degree (length d) c.index-d-degree.result o.zero
+          c.index-d-degree.is (omega arith) refl))
           ∙ c.inverse_of-inverse.ensures.inverse)
           (c.mul-factor.ensures.value
           ∙ ap (λ x. o.mul x c.inverse_of-inverse.result)

@@ -1,6 +1,5 @@
-use Rattle.std.proofs.Common.{◌≡◌, ◌≢◌, ◌-◌, [], ◌∷◌, length, slice_index_or, ap, sym, ◌∙◌, subst, arith}
+use Rattle.std.proofs.Common.{◌≡◌, ◌≢◌, [], length, ap, sym, ◌∙◌, subst, arith}
 use Rattle.std.proofs.lemmas.Bool.Decides.{nat_tests}
-use Rattle.alg_model.specs.Polynomials.{poly_product}
 use Rattle.alg_model.specs.Factors.{IsGreatestCommonDivisor}
 use Rattle.alg_model.specs.Maps.{field_values}
 use Rattle.alg_rings.proofs.Lists.{length_not_nil}
@@ -35,7 +34,7 @@ returns c =
     let same = c.coefficients-coefficients.ensures.value in
     let some : g ≢ [] = λ e. let l : length g ≡ 0 = ap length e in grind (arith, nat_tests) in
     let last = last_read P F.ring f g c.index-coefficients-coefficients.result same
-        (length_not_nil g some) c.index-coefficients-coefficients.is in
+    (length_not_nil g some) c.index-coefficients-coefficients.is in
     subst (IsGreatestCommonDivisor v f []) (sym c.mul.ensures.product)
     (multiple_gcd P F f c.of_values.result i c.requires (λ e. some (same ∙ e))
     c.inverse_of-inverse.ensures.valid

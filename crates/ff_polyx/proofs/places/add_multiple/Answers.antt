@@ -1,7 +1,6 @@
 use Rattle.std.proofs.Common.{◌+◌, slice_index_or, ap, sym, ◌∙◌, ⊎_elim, arith}
 use Rattle.std.proofs.lemmas.Bool.{cases_lt}
 use Rattle.std.proofs.lemmas.List.{get_or_past}
-use Rattle.alg_model.specs.Coefficients.{Ops}
 use Rattle.alg_model.specs.Maps.{field_values}
 use Rattle.alg_rings.proofs.Validity.{place_valid}
 use Rattle.ff_polyx.proofs.FieldCarriers.{propositional, ring}

@@ -1,9 +1,8 @@
 use Rattle.std.proofs.Common.{◌+◌, ◌/◌, [], ◌∷◌, length, ap, sym, ◌∙◌, subst, arith}
 use Rattle.alg_model.specs.Polynomials.{trim, poly_power}
-use Rattle.alg_model.specs.Factors.{IsDivision}
 use Rattle.alg_model.specs.Maps.{field_values}
 use Rattle.alg_rings.proofs.Trims.{length_trim}
-use Rattle.alg_rings.proofs.CarrierPolynomials.{nil_polynomial, one_polynomial}
+use Rattle.alg_rings.proofs.CarrierPolynomials.{nil_polynomial}
 use Rattle.ff_poly.proofs.PowersModulo.{Leaves, square_leaves, next_leaves}
 use Rattle.ff_polyx.proofs.FieldCarriers.{propositional, field, ring}
 use Rattle.ff_polyx.proofs.powers.+power_of_reduced.Goals as goal
@@ -17,15 +16,18 @@ returns-then-e-eq0 t c =
     let one = c.of_values.ensures.coefficients ∙ ap (λ x. trim o (x ∷ [])) c.one.ensures.value in
     record {
       power = subst (λ n. Leaves v (poly_power o c.args.a.now n) c.args.f.now r)
-          (sym c.if-e-eq0.true)
-          (
+          (sym c.if-e-eq0.true) (
             [],
             record {
               quotient = nil_polynomial (propositional K) (ring K c.prime-prime.ensures.whole);
               remainder = c.of_values.ensures.valid;
               identity = c.of_values.ensures.valid.1 ∙ one;
-              smaller = omega (arith, ap length one, length_trim o (o.one ∷ []),
-                  c.requires.not_constant);
+              smaller = omega (
+                arith,
+                ap length one,
+                length_trim o (o.one ∷ []),
+                c.requires.not_constant,
+              );
             },
           );
     }

@@ -1,8 +1,9 @@
-use Rattle.std.proofs.Common.{◌≡◌, ℕ, ◌+◌, ◌-◌, slice_index_or, drop, ap, sym, ◌∙◌, subst, arith}
+use Rattle.std.proofs.Common.{◌≡◌, ℕ, ◌+◌, ◌-◌, length, slice_index_or, drop, refl, ap, ◌∙◌, subst, arith}
+use Rattle.std.proofs.lemmas.List.{get_or_read_under}
 use Rattle.alg_model.specs.Polynomials.{product}
 use Rattle.alg_model.specs.Maps.{field_values}
 use Rattle.ff_polyx.proofs.FieldCarriers.{propositional, ring}
-use Rattle.ff_polyx.proofs.ValuePlaces.{indexed, product_step}
+use Rattle.ff_polyx.proofs.ValuePlaces.{product_step}
 use Rattle.ff_polyx.proofs.products.add_product.Goals as goal
 
 pub loop-i-preserved : goal.loop-i-preserved
@@ -22,7 +23,8 @@ loop-i-preserved c =
           c.requires.second h.values (h.low i (omega arith))
           (λ k. subst (λ j. slice_index_or c.loop-i.places (j + k) o.zero
           ≡ slice_index_or (product o (drop j c.args.a.now) c.args.b.now) k o.zero) here (h.high k))
-          (λ k. c.add_multiple.ensures.above k ∙ ap (λ x. o.add (slice_index_or c.loop-i.places (i + k) o.zero)
-          (o.mul x (slice_index_or c.args.b.now k o.zero)))
-          (sym (indexed c.args.a.now i c.index-a-i.result o.zero (omega arith) c.index-a-i.is)));
+          (λ k. c.add_multiple.ensures.above k
+          ∙ ap (λ x. o.add (slice_index_or c.loop-i.places (i + k) o.zero) (o.mul x (slice_index_or c.args.b.now k o.zero)))
+          (get_or_read_under c.args.a.now i (length c.args.a.now) c.index-a-i.result o.zero
+          c.index-a-i.is (omega arith) refl));
     }

@@ -1,5 +1,4 @@
-use Rattle.std.proofs.Common.{◌≡◌, ◌≢◌, ◌-◌, [], length, slice_index_or, ap, ap₂, sym, ◌∙◌, subst, All}
-use Rattle.std.specs.List.{refill}
+use Rattle.std.proofs.Common.{◌≢◌, ◌-◌, length, slice_index_or, ap, sym, ◌∙◌, subst, All}
 use Rattle.alg_model.specs.Polynomials.{trim}
 use Rattle.alg_model.specs.Factors.{IsPolynomial, IsDivision}
 use Rattle.alg_model.specs.Maps.{field_values}
@@ -59,10 +58,10 @@ returns c =
     let vf = subst (IsPolynomial v) (sym ef) c.requires.dividend in
     let vg = subst (IsPolynomial v) (sym eg) c.requires.divisor in
     let whole = c.divide.ensures.division
-        ∙ ap (trim o) (c.as_mut_slice.ensures.value ∙ c.padded-rest.ensures)
-        ∙ trim_padded P R f (length f - length f) vf in
+    ∙ ap (trim o) (c.as_mut_slice.ensures.value ∙ c.padded-rest.ensures)
+    ∙ trim_padded P R f (length f - length f) vf in
     let divided = division_from_places P R f g q r c.divide.ensures.quotient c.divide.ensures.rest vg
-        (length_not_nil g (λ z. c.requires.not_zero (sym eg ∙ z))) whole c.divide.ensures.smaller in
+    (length_not_nil g (λ z. c.requires.not_zero (sym eg ∙ z))) whole c.divide.ensures.smaller in
     let eq = c.of_values.ensures.coefficients ∙ ap (trim o) (c.as_slice.ensures.value
     ∙ refill_whole c.padded-quotient.result.items c.divide.new.quotient
     (c.divide.ensures.quotient_len ∙ ap length c.as_mut_slice-2.ensures.value)) in

@@ -1,5 +1,4 @@
 use Rattle.std.proofs.Common.{length, ap, ap₂, sym, ◌∙◌, subst, All}
-use Rattle.std.specs.List.{refill}
 use Rattle.alg_model.specs.Polynomials.{trim, product, poly_product}
 use Rattle.alg_model.specs.Maps.{field_values}
 use Rattle.alg_rings.proofs.Validity.{product_valid}
@@ -20,7 +19,7 @@ returns-clause-product c =
     let eg = c.coefficients-second.ensures.value in
     let ws = c.add_product.new.places in
     let whole = refill_whole c.padded-places.result.items ws
-        (c.add_product.ensures.len ∙ ap length c.as_mut_slice.ensures.value) in
+    (c.add_product.ensures.len ∙ ap length c.as_mut_slice.ensures.value) in
     let vf = subst (All v.Valid) (sym ef) c.requires.first.0 in
     let vg = subst (All v.Valid) (sym eg) c.requires.second.0 in
     c.of_values.ensures.coefficients

@@ -1,5 +1,4 @@
-use Rattle.std.proofs.Common.{◌≡◌, ◌+◌, ◌-◌, length, slice_index_or, ap, ap₂, sym, ◌∙◌, subst, All}
-use Rattle.std.specs.List.{refill}
+use Rattle.std.proofs.Common.{◌+◌, ◌-◌, length, slice_index_or, ap, ap₂, sym, ◌∙◌, subst, All}
 use Rattle.alg_model.specs.Polynomials.{trim, poly_negative, poly_difference}
 use Rattle.alg_model.specs.Maps.{field_values}
 use Rattle.alg_rings.proofs.Validity.{negatives_valid}
@@ -20,7 +19,7 @@ returns-clause-difference c =
     let ws = c.add_multiple.new.places in
     let value = c.as_mut_slice.ensures.value in
     let whole = refill_whole c.padded-places.result.items ws
-        (c.add_multiple.ensures.len ∙ ap length value) in
+    (c.add_multiple.ensures.len ∙ ap length value) in
     let vf = subst (All v.Valid) (sym ef) c.requires.first.0 in
     let vg = subst (All v.Valid) (sym eg) c.requires.second.0 in
     c.of_values.ensures.coefficients
