@@ -19,7 +19,7 @@ use Rattle.ff_residues.proofs.SumsBelow.{add_agree, mul_agree, sum_same, sum_agr
 use Rattle.ff_field.specs.PrivateTables.{first_place, place_before, times_x_place, power_place, IsTable}
 
 -- a place of a sum, where both lists have it
-sum_at_both : (p : ℕ) (f g : List ℕ) (k : ℕ) → k < length f → k < length g
+pub sum_at_both : (p : ℕ) (f g : List ℕ) (k : ℕ) → k < length f → k < length g
     → slice_index (sum (mod_ops p) f g) k ≡ (slice_index f k + slice_index g k) % p
 sum_at_both p [] g k l m = absurd (omega arith)
 sum_at_both p (x ∷ xs) [] k l m = absurd (omega arith)
@@ -27,7 +27,7 @@ sum_at_both p (x ∷ xs) (y ∷ ys) zero l m = refl
 sum_at_both p (x ∷ xs) (y ∷ ys) (suc k) l m = sum_at_both p xs ys k (omega arith) (omega arith)
 
 -- a place of a multiple
-scale_at : (p c : ℕ) (f : List ℕ) (k : ℕ)
+pub scale_at : (p c : ℕ) (f : List ℕ) (k : ℕ)
     → slice_index (scale (mod_ops p) c f) k ≡ (c * slice_index f k) % p
 scale_at p c [] k = sym (ap (λ w. w % p) (mul-zero c) ∙ zero-mod p)
 scale_at p c (x ∷ xs) zero = refl

@@ -81,7 +81,7 @@ module _ (K : Field) (W : IsFiniteField K) where
   inverse_from_bezout =
       Reductions.inverse_from_bezout P F f W.irreducible.not_constant W.monic W.irreducible
 
-  abbrev V : IsPropositional (field_values K)
+  abbrev pub V : IsPropositional (field_values K)
   V = values_propositional P K.polynomial
 
   abbrev half : List ℕ → ℕ → List ℕ
