@@ -31,8 +31,13 @@ length_combination p n (c ∷ cs) (x ∷ xs) v =
     let e : length c ≡ n = All-head (λ c. length c ≡ n) c cs v in
     let d : length (combination (mod_ops p) n cs xs) ≡ n =
     length_combination p n cs xs (All-tail (λ c. length c ≡ n) c cs v) in
-    omega (arith, e, d, Lists.length_sum (mod_ops p) (scale (mod_ops p) x c) (combination (mod_ops p) n cs xs),
-    Lists.length_scale (mod_ops p) x c)
+    omega (
+      arith,
+      e,
+      d,
+      Lists.length_sum (mod_ops p) (scale (mod_ops p) x c) (combination (mod_ops p) n cs xs),
+      Lists.length_scale (mod_ops p) x c,
+    )
 
 -- **a place of a combination of columns**
 pub combination_at : (p n : ℕ) (cs : List (List ℕ)) (xs : List ℕ) → All (λ c. length c ≡ n) cs

@@ -204,8 +204,11 @@ module _ (p : ℕ) (f : List ℕ) where
             let t = (p - slice_index r (n - 1)) % p in
             let whole = sum (mod_ops p) (0 ∷ r) (scale (mod_ops p) t f) in
             length-take n whole
-            ∙ omega (arith, Lists.length_sum (mod_ops p) (0 ∷ r) (scale (mod_ops p) t f),
-            Lists.length_scale (mod_ops p) t f)
+            ∙ omega (
+              arith,
+              Lists.length_sum (mod_ops p) (0 ∷ r) (scale (mod_ops p) t f),
+              Lists.length_scale (mod_ops p) t f,
+            )
 
     module _ (reduced : (g : List ℕ) → All (λ a. a < p) g → (k : ℕ)
         → slice_index (remainder (mod_ops p) f g) k < p) where

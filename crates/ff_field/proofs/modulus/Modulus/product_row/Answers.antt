@@ -49,10 +49,22 @@ shifted_row-requires g c =
     subst (λ q. All (λ x. x < q) c.args.a.now) (sym value) c.requires.first.0 in
     let residues : All (λ x. x < p) c.between_zeros-list.result =
     c.between_zeros-list.ensures.residues p positive
-    (subst (λ q. All (λ x. x < q) c.args.b.now) (sym value) c.requires.second.0) in
-    (search rules, (c.requires.width, (factors, (
-    omega (arith, c.requires.first.1, c.requires.fits), (
-    omega (arith, c.requires.fits, c.requires.width, c.degree.ensures.value), residues)))))
+    (subst (λ q. All (λ x. x < q) c.args.b.now) (sym value) c.requires.second.0) in (
+      search rules,
+      (
+        c.requires.width,
+        (
+          factors,
+          (
+            omega (arith, c.requires.first.1, c.requires.fits),
+            (
+              omega (arith, c.requires.fits, c.requires.width, c.degree.ensures.value),
+              residues,
+            ),
+          ),
+        ),
+      ),
+    )
 
 pub shifted_row-low-requires : goal.shifted_row-low-requires
 shifted_row-low-requires g c =
@@ -63,8 +75,19 @@ shifted_row-low-requires g c =
     subst (λ q. All (λ x. x < q) c.args.a.now) (sym value) c.requires.first.0 in
     let residues : All (λ x. x < p) c.between_zeros-list.result =
     c.between_zeros-list.ensures.residues p positive
-    (subst (λ q. All (λ x. x < q) c.args.b.now) (sym value) c.requires.second.0) in
-    (search rules, (c.requires.width, (factors, (
-    omega (arith, c.requires.first.1, c.requires.fits), (
-    omega (arith, c.requires.fits, c.requires.width, c.degree.ensures.value), residues)))))
-
+    (subst (λ q. All (λ x. x < q) c.args.b.now) (sym value) c.requires.second.0) in (
+      search rules,
+      (
+        c.requires.width,
+        (
+          factors,
+          (
+            omega (arith, c.requires.first.1, c.requires.fits),
+            (
+              omega (arith, c.requires.fits, c.requires.width, c.degree.ensures.value),
+              residues,
+            ),
+          ),
+        ),
+      ),
+    )
