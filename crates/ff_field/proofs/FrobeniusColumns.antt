@@ -1,20 +1,18 @@
 -- Frobenius as a matrix over the residues.
-use Rattle.std.proofs.Common.{◌≡◌, ℕ, zero, suc, ◌+◌, ◌-◌, ◌*◌, ◌%◌, ◌^◌, ◌<◌, ◌≤◌, List, [], ◌∷◌, length, map, replicate, slice_index, slice_index_or, All, ap, ap₂, sym, ◌∙◌, arith, mod-eq_of_lt, pow-suc}
-use Rattle.std.specs.List.{range_with_len}
+use Rattle.std.proofs.Common.{◌≡◌, ℕ, ◌*◌, ◌%◌, ◌^◌, ◌<◌, List, [], ◌∷◌, length, slice_index, slice_index_or, All, ap, sym, ◌∙◌, arith, mod-eq_of_lt, pow-suc}
 use Rattle.std.proofs.lemmas.List.{length-replicate}
 use Rattle.std.proofs.lemmas.List.Elements.{All-head, All-tail, All-from_get_or}
 use Rattle.std.proofs.lemmas.List.FromFn.{length-map-range_with_len, get_or-map-range_with_len}
-use Rattle.std.proofs.lemmas.Nat.{mul-mod_second}
 use native.Mathlib.Nat.{mod-mod, mul-zero, one-mul, zero-mod}
 use Rattle.std.proofs.Math.Nat.{pow-zero}
 use Rattle.alg_model.specs.Coefficients.{mod_ops, power}
-use Rattle.alg_model.specs.Polynomials.{sum, scale}
+use Rattle.alg_model.specs.Polynomials.{scale}
 use Rattle.alg_model.specs.Matrices.{combination}
-use Rattle.alg_model.specs.Maps.{Field, IsFiniteField, field_values, degree_of, generator, powers, apply, frobenius_map}
+use Rattle.alg_model.specs.Maps.{Field, IsFiniteField, field_values, degree_of, generator, powers}
 use Rattle.alg_rings.proofs.Lists
 use Rattle.alg_fields.proofs.ListRemainders.{zeros_at}
 use Rattle.alg_galois.proofs.Embeddings.{apply_frobenius}
-use Rattle.ff_residues.specs.SumRows.{sum_below, row_sum}
+use Rattle.ff_residues.specs.SumRows.{row_sum}
 use Rattle.ff_residues.proofs.ResidueLists.{below_at}
 use Rattle.ff_residues.proofs.SumsBelow.{add_agree, mul_agree, sum_agree, sum_first, sum_zero}
 use Rattle.ff_field.specs.PrivateTables.{IsFrobenius}

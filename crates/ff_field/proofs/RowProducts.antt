@@ -1,11 +1,11 @@
 -- Products of values by windows of a list between zeros, and by the rows that a field keeps.
-use Rattle.std.proofs.Common.{◌≡◌, ℕ, zero, suc, ◌+◌, ◌-◌, ◌*◌, ◌%◌, ◌<◌, ◌≤◌, List, [], ◌∷◌, ◌++◌, length, take, replicate, slice_index, slice_index_or, slice_set, All, ap, ap₂, sym, ◌∙◌, arith, ⊎_elim, ext_get_or, get_or-take, length-take, mod-eq_of_lt}
+use Rattle.std.proofs.Common.{◌≡◌, ℕ, zero, suc, ◌+◌, ◌-◌, ◌*◌, ◌%◌, ◌<◌, ◌≤◌, List, [], ◌∷◌, ◌++◌, length, take, replicate, slice_index, slice_index_or, slice_set, All, ap, ap₂, sym, ◌∙◌, arith, ⊎_elim, ext_get_or, get_or-take, length-take}
 use Rattle.std.proofs.lemmas.Bool.{cases_eq, cases_lt}
 use Rattle.std.proofs.lemmas.List.{get_or_past, get_or-set_same, get_or-set_other, length-set, append-nil}
 use Rattle.std.proofs.lemmas.List.Elements.{All-from_get_or}
 use Rattle.std.proofs.lemmas.Nat.{mul-mod_second}
-use native.Mathlib.Nat.{mod-mod, mul-zero, zero-mul, mod-add-mod, add-mod-mod}
-use Rattle.alg_model.specs.Coefficients.{mod_ops, residues}
+use native.Mathlib.Nat.{mul-zero, zero-mul}
+use Rattle.alg_model.specs.Coefficients.{mod_ops}
 use Rattle.alg_model.specs.Polynomials.{product, convolution_to, convolution}
 use Rattle.alg_model.specs.Values.{remainder}
 use Rattle.alg_model.specs.Maps.{Field, IsFiniteField, field_values, degree_of}

@@ -1,4 +1,4 @@
-use Rattle.std.proofs.Common.{◌≡◌, suc, ◌+◌, ◌%◌, ◌<◌, List, slice_index, All, ap, ap₂, sym, ◌∙◌, subst, arith}
+use Rattle.std.proofs.Common.{◌≡◌, suc, ◌+◌, ◌<◌, slice_index, All, ap, ap₂, sym, ◌∙◌, subst, arith}
 use Rattle.alg_model.specs.Coefficients.{power}
 use Rattle.alg_model.specs.Maps.{field_values, generator, degree_of}
 use Rattle.ff_poly.specs.declared.TheConstants.{MAX_DEGREE}

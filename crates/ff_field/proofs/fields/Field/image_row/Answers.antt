@@ -1,4 +1,4 @@
-use Rattle.std.proofs.Common.{◌≡◌, ◌+◌, ◌%◌, ◌<◌, length, ap, ap₂, sym, ◌∙◌, arith}
+use Rattle.std.proofs.Common.{◌+◌, ◌%◌, ◌<◌, length, ap, ap₂, sym, ◌∙◌, arith}
 use native.Mathlib.Nat.{zero-add}
 use Rattle.alg_galois.proofs.Fields.{modulus_of, generator_valid}
 use Rattle.ff_residues.specs.SumRows.{row_sum}
