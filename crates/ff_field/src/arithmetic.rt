@@ -6,8 +6,8 @@ ghost use Rattle.alg_model.specs.Values.{remainder};
 ghost use Rattle.alg_model.specs.Maps.{field_values, generator, constant};
 ghost use Rattle.ff_field.specs.SmallFields.{IsSmallField};
 
-use crate::{Field, Value};
 use crate::tables::zeros;
+use crate::{Field, Value};
 use ff_poly::{MAX_DEGREE, MAX_POLY, Poly, Prime};
 
 impl Field {

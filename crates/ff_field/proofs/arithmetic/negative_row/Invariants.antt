@@ -1,4 +1,4 @@
-use Rattle.std.proofs.Common.{◌+◌, ◌-◌, ◌%◌, slice_index}
+use Rattle.std.proofs.Common.{◌-◌, ◌%◌, slice_index}
 use Rattle.ff_poly.specs.declared.TheConstants.{MAX_DEGREE}
 use Rattle.ff_residues.proofs.ChangedPlaces.{ChangedBelow}
 use Rattle.ff_field.proofs.arithmetic.negative_row.Given as goal

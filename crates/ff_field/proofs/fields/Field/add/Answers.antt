@@ -1,4 +1,4 @@
-use Rattle.std.proofs.Common.{◌≡◌, ◌-◌, ◌+◌, ◌%◌, ◌≤◌, ◌<◌, ◌++◌, length, take, replicate, slice_index, ap, ap₂, sym, ◌∙◌, subst, arith}
+use Rattle.std.proofs.Common.{◌-◌, ◌+◌, ◌%◌, ◌++◌, length, take, replicate, slice_index, ap, ap₂, sym, ◌∙◌, subst, arith}
 use Rattle.alg_model.specs.Maps.{field_values}
 use Rattle.ff_field.proofs.RowProducts.{value_of_places, sum_valid, sum_place}
 use Rattle.ff_field.proofs.fields.Field.add.Goals as goal
