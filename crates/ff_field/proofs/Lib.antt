@@ -1,3 +1,4 @@
+pub mod FrobeniusColumns
 pub mod Reductions
 pub mod RemainderRows
 pub mod RowProducts

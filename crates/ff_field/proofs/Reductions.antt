@@ -1,11 +1,11 @@
--- From polynomials over a field to the values modulo a monic f: padding with zeros, sums, products,
--- negatives and inverses. Powers by squaring and conjugates, in any ring.
+-- From polynomials over a field to the values modulo a monic f: padding with zeros, and inverses.
+-- Powers by squaring and conjugates, in any ring.
 use Rattle.std.proofs.Common.{◌≡◌, ◌≢◌, ℕ, zero, suc, ◌+◌, ◌-◌, ◌*◌, ◌^◌, ◌<◌, ◌≤◌, List, [], ◌∷◌, ◌++◌, length, replicate, All, ap, ap₂, sym, ◌∙◌, subst, arith, ⊎_elim, eq-or-lt_of_le, pow-suc}
 use Rattle.std.proofs.lemmas.List.{length-replicate, length-append}
 use Rattle.std.proofs.lemmas.List.Elements.{All-append, All-replicate, All-nil, All-cons, All-head, All-tail}
 use Rattle.std.proofs.lemmas.List.FromFn.{map-range_with_len_more}
 use Rattle.alg_model.specs.Coefficients.{Ops, Carrier, power}
-use Rattle.alg_model.specs.Polynomials.{trim, poly_sum, poly_difference, poly_product, leading}
+use Rattle.alg_model.specs.Polynomials.{trim, poly_sum, poly_product, leading}
 use Rattle.alg_model.specs.Factors.{IsPolynomial, IsMonic, IsDivision, IsGreatestCommonDivisor, IsIrreducible}
 use Rattle.alg_model.specs.Values.{degree, padded, remainder, value_ops, values}
 use Rattle.alg_model.specs.Fields.{IsRing, IsField}
@@ -163,40 +163,6 @@ module _ {A : Type 0} {c : Carrier A} (P : IsPropositional c) (F : IsField c) (f
       (Classes.class_of_padded P F.ring (degree f.0) r d.remainder.0 vp.0
       ∙ Classes.class_of_polynomial P F.ring (r, d.remainder)))
       (Modulo.same_back E.ring divided)))
-
-  -- **sums, negatives and products of values by those of polynomials**
-  pub sum_of_values : (a b : List A) → (values c f.0).Valid a → (values c f.0).Valid b
-      → remainder c.ops f.0 (poly_sum c.ops (trim c.ops a) (trim c.ops b))
-      ≡ (value_ops c.ops f.0).add a b
-  sum_of_values a b va vb =
-      Remainders.remainder_sum P F f not_constant monic (class a va) (class b vb)
-      ∙ ap₂ (value_ops c.ops f.0).add
-      (Remainders.remainder_of_value P F f not_constant monic a va)
-      (Remainders.remainder_of_value P F f not_constant monic b vb)
-
-  -- products
-  pub product_of_values : (a b : List A) → (values c f.0).Valid a → (values c f.0).Valid b
-      → remainder c.ops f.0 (poly_product c.ops (trim c.ops a) (trim c.ops b))
-      ≡ (value_ops c.ops f.0).mul a b
-  product_of_values a b va vb =
-      Remainders.remainder_product P F f not_constant monic (class a va) (class b vb)
-      ∙ ap₂ (value_ops c.ops f.0).mul
-      (Remainders.remainder_of_value P F f not_constant monic a va)
-      (Remainders.remainder_of_value P F f not_constant monic b vb)
-
-  -- negatives, as differences from zero
-  pub negative_of_value : (a : List A) → (values c f.0).Valid a
-      → remainder c.ops f.0
-      (poly_difference c.ops (trim c.ops (value_ops c.ops f.0).zero) (trim c.ops a))
-      ≡ (value_ops c.ops f.0).neg a
-  negative_of_value a v =
-      Remainders.remainder_from_same P F f not_constant monic
-      (Q.add (class (value_ops c.ops f.0).zero V.zero_valid) (Q.neg (class a v)))
-      ((value_ops c.ops f.0).neg a) (V.neg_valid a v)
-      (Modulo.same_trans E.ring (V.neg a v)
-      (Modulo.same_back E.ring (Modulo.same_trans E.ring
-      (Modulo.same_sum E.ring (V.zero V.zero_valid) (Modulo.same_itself E.ring f (Q.neg (class a v))))
-      (Modulo.same_from_equal E.ring (E.ring.zero_add (Q.neg (class a v)))))))
 
   -- ---- inverses
   trimmed_not_nil : (a : List A) → (values c f.0).Valid a → a ≢ (value_ops c.ops f.0).zero

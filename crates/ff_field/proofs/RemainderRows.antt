@@ -1,13 +1,13 @@
 -- Remainders by a monic f of degree n, place by place: c + x g has the remainder c + x r less a
 -- multiple of f, so that the remainder of g is the sum of its coefficients times the remainders of
 -- the powers of x.
-use Rattle.std.proofs.Common.{◌≡◌, ◌≢◌, ℕ, zero, suc, ◌+◌, ◌-◌, ◌*◌, ◌%◌, ◌<◌, ◌≤◌, List, [], ◌∷◌, ◌++◌, length, take, replicate, slice_index, slice_index_or, slice_set, All, refl, ap, ap₂, sym, ◌∙◌, arith, length-take, get_or-take, mod-eq_of_lt, ⊎_elim}
+use Rattle.std.proofs.Common.{◌≡◌, ◌≢◌, ℕ, zero, suc, ◌+◌, ◌-◌, ◌*◌, ◌%◌, ◌<◌, List, [], ◌∷◌, length, replicate, slice_index, slice_index_or, slice_set, All, refl, ap, ap₂, sym, ◌∙◌, arith, length-take, get_or-take, mod-eq_of_lt, ⊎_elim}
 use Rattle.std.proofs.lemmas.List.{length-replicate, length-set, get_or-set_same, get_or-set_other}
-use Rattle.std.proofs.lemmas.Bool.{cases_eq, cases_lt}
-use Rattle.std.proofs.lemmas.Nat.{mul-mod_first, mul-mod_second}
-use Rattle.std.proofs.lemmas.List.Elements.{All-head, All-tail, All-set, All-from_get_or}
+use Rattle.std.proofs.lemmas.Bool.{cases_eq}
+use Rattle.std.proofs.lemmas.Nat.{mul-mod_first}
+use Rattle.std.proofs.lemmas.List.Elements.{All-tail, All-set, All-from_get_or}
 use Rattle.std.proofs.Math.Nat.{add-mul-mod_self_left}
-use native.Mathlib.Nat.{mod-add-mod, add-mod-mod, mod-mod, zero-mod, mul-zero, zero-mul, add-zero, zero-add, mul-one, one-mul}
+use native.Mathlib.Nat.{mod-mod, zero-mod, mul-zero, add-zero, zero-add, mul-one}
 use Rattle.alg_model.specs.Coefficients.{mod_ops, residues}
 use Rattle.alg_model.specs.Polynomials.{sum, scale}
 use Rattle.alg_model.specs.Values.{degree, times_x, remainder}
@@ -15,11 +15,11 @@ use Rattle.alg_rings.proofs.Lists
 use Rattle.alg_fields.proofs.ListRemainders.{zeros_at, length_remainder}
 use Rattle.ff_poly.specs.declared.TheConstants.{MAX_DEGREE}
 use Rattle.ff_residues.specs.SumRows.{sum_below, IsRowOf}
-use Rattle.ff_residues.proofs.SumsBelow.{add_agree, mul_agree, sum_same, sum_agree, sum_first, sum_split, sum_single}
+use Rattle.ff_residues.proofs.SumsBelow.{add_agree, mul_agree, sum_same, sum_first, sum_split, sum_single}
 use Rattle.ff_field.specs.PrivateTables.{first_place, place_before, times_x_place, power_place, IsTable}
 
 -- a place of a sum, where both lists have it
-sum_at_both : (p : ℕ) (f g : List ℕ) (k : ℕ) → k < length f → k < length g
+pub sum_at_both : (p : ℕ) (f g : List ℕ) (k : ℕ) → k < length f → k < length g
     → slice_index (sum (mod_ops p) f g) k ≡ (slice_index f k + slice_index g k) % p
 sum_at_both p [] g k l m = absurd (omega arith)
 sum_at_both p (x ∷ xs) [] k l m = absurd (omega arith)
@@ -27,7 +27,7 @@ sum_at_both p (x ∷ xs) (y ∷ ys) zero l m = refl
 sum_at_both p (x ∷ xs) (y ∷ ys) (suc k) l m = sum_at_both p xs ys k (omega arith) (omega arith)
 
 -- a place of a multiple
-scale_at : (p c : ℕ) (f : List ℕ) (k : ℕ)
+pub scale_at : (p c : ℕ) (f : List ℕ) (k : ℕ)
     → slice_index (scale (mod_ops p) c f) k ≡ (c * slice_index f k) % p
 scale_at p c [] k = sym (ap (λ w. w % p) (mul-zero c) ∙ zero-mod p)
 scale_at p c (x ∷ xs) zero = refl

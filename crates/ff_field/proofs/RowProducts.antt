@@ -1,11 +1,11 @@
 -- Products of values by windows of a list between zeros, and by the rows that a field keeps.
-use Rattle.std.proofs.Common.{◌≡◌, ℕ, zero, suc, ◌+◌, ◌-◌, ◌*◌, ◌%◌, ◌<◌, ◌≤◌, List, [], ◌∷◌, ◌++◌, length, take, replicate, slice_index, slice_index_or, slice_set, All, ap, ap₂, sym, ◌∙◌, arith, ⊎_elim, ext_get_or, get_or-take, length-take, mod-eq_of_lt}
+use Rattle.std.proofs.Common.{◌≡◌, ℕ, zero, suc, ◌+◌, ◌-◌, ◌*◌, ◌%◌, ◌<◌, ◌≤◌, List, [], ◌∷◌, ◌++◌, length, take, replicate, slice_index, slice_index_or, slice_set, All, ap, ap₂, sym, ◌∙◌, arith, ⊎_elim, ext_get_or, get_or-take, length-take}
 use Rattle.std.proofs.lemmas.Bool.{cases_eq, cases_lt}
-use Rattle.std.proofs.lemmas.List.{get_or_past, get_or-set_same, get_or-set_other, length-set, append-nil}
+use Rattle.std.proofs.lemmas.List.{get_or_past, get_or-set_same, get_or-set_other, length-set, append-nil, get_or-map}
 use Rattle.std.proofs.lemmas.List.Elements.{All-from_get_or}
 use Rattle.std.proofs.lemmas.Nat.{mul-mod_second}
-use native.Mathlib.Nat.{mod-mod, mul-zero, zero-mul, mod-add-mod, add-mod-mod}
-use Rattle.alg_model.specs.Coefficients.{mod_ops, residues}
+use native.Mathlib.Nat.{mul-zero, zero-mul}
+use Rattle.alg_model.specs.Coefficients.{mod_ops}
 use Rattle.alg_model.specs.Polynomials.{product, convolution_to, convolution}
 use Rattle.alg_model.specs.Values.{remainder}
 use Rattle.alg_model.specs.Maps.{Field, IsFiniteField, field_values, degree_of}
@@ -18,7 +18,7 @@ use Rattle.ff_residues.specs.SumRows.{sum_below, row_sum, shifted_sum}
 use Rattle.ff_residues.proofs.ResidueLists.{below_at}
 use Rattle.ff_residues.proofs.SumsBelow.{add_agree, sum_same, sum_agree, sum_cut}
 use Rattle.ff_field.specs.PrivateTables.{IsRowTable, power_place}
-use Rattle.ff_field.proofs.RemainderRows.{remainder_by_rows}
+use Rattle.ff_field.proofs.RemainderRows.{remainder_by_rows, sum_at_both}
 use Rattle.ff_field.proofs.SmallFieldLaws
 
 -- ---- a list between zeros
@@ -160,3 +160,27 @@ module _ (K : Field) (W : IsFiniteField K) where
       ap (λ m. take n row ++ replicate m 0) none ∙ append-nil (take n row)
       ∙ ext_get_or 0 (take n row) v (long ∙ sym valid.1)
       (λ k l. let m : k < n = omega (arith, long) in get_or-take n row k 0 m ∙ same k m)
+
+  -- sums and negatives are values
+  pub sum_valid : (a b : List ℕ) → (field_values K).Valid a → (field_values K).Valid b
+      → (field_values K).Valid ((field_values K).ops.add a b)
+  sum_valid a b va vb = (SmallFieldLaws.values_field K W).ring.add_valid a b va vb
+
+  pub negative_valid : (a : List ℕ) → (field_values K).Valid a
+      → (field_values K).Valid ((field_values K).ops.neg a)
+  negative_valid a va = (SmallFieldLaws.values_field K W).ring.neg_valid a va
+
+-- their places
+pub sum_place : (K : Field) (a b : List ℕ) → (field_values K).Valid a → (field_values K).Valid b
+    → (row : List ℕ) → ((k : ℕ) → k < degree_of K
+    → slice_index row k ≡ (slice_index a k + slice_index b k) % K.characteristic)
+    → (k : ℕ) → k < degree_of K → slice_index row k ≡ slice_index ((field_values K).ops.add a b) k
+sum_place K a b va vb row h k l = h k l
+    ∙ sym (sum_at_both K.characteristic a b k (omega (arith, va.1)) (omega (arith, vb.1)))
+
+pub negative_place : (K : Field) (a : List ℕ) → (field_values K).Valid a
+    → (row : List ℕ) → ((k : ℕ) → k < degree_of K
+    → slice_index row k ≡ (K.characteristic - slice_index a k) % K.characteristic)
+    → (k : ℕ) → k < degree_of K → slice_index row k ≡ slice_index ((field_values K).ops.neg a) k
+negative_place K a va row h k l = h k l
+    ∙ sym (get_or-map (mod_ops K.characteristic).neg a k 0 0 (omega (arith, va.1)))

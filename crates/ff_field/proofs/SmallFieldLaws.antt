@@ -2,7 +2,7 @@
 use Rattle.std.proofs.Common.{◌≡◌, ◌≢◌, ℕ, suc, ◌+◌, ◌-◌, ◌/◌, ◌%◌, ◌^◌, ◌<◌, ◌≤◌, List, ◌++◌, length, replicate, slice_index, All, ap, sym, ◌∙◌, arith}
 use Rattle.std.proofs.Math.Nat.{pow-zero}
 use Rattle.alg_model.specs.Coefficients.{Ops, mod_ops, residues, power}
-use Rattle.alg_model.specs.Polynomials.{trim, poly_sum, poly_difference, poly_product}
+use Rattle.alg_model.specs.Polynomials.{trim, poly_sum, poly_product}
 use Rattle.alg_model.specs.Factors.{IsPolynomial, IsDivision, IsGreatestCommonDivisor}
 use Rattle.alg_model.specs.Values.{remainder}
 use Rattle.alg_model.specs.Fields.{IsField}
@@ -56,21 +56,6 @@ module _ (K : Field) (W : IsFiniteField K) where
       → (field_values K).Valid (remainder o K.polynomial g)
   remainder_valid g v = remainder_value P F f W.irreducible.not_constant W.monic (g, v)
 
-  -- sums
-  pub sum_of_values : (a b : List ℕ) → (field_values K).Valid a → (field_values K).Valid b
-      → remainder o K.polynomial (poly_sum o (trim o a) (trim o b)) ≡ T.add a b
-  sum_of_values = Reductions.sum_of_values P F f W.irreducible.not_constant W.monic
-
-  -- products
-  pub product_of_values : (a b : List ℕ) → (field_values K).Valid a → (field_values K).Valid b
-      → remainder o K.polynomial (poly_product o (trim o a) (trim o b)) ≡ T.mul a b
-  product_of_values = Reductions.product_of_values P F f W.irreducible.not_constant W.monic
-
-  -- negatives
-  pub negative_of_value : (a : List ℕ) → (field_values K).Valid a
-      → remainder o K.polynomial (poly_difference o (trim o T.zero) (trim o a)) ≡ T.neg a
-  negative_of_value = Reductions.negative_of_value P F f W.irreducible.not_constant W.monic
-
   -- **inverses**
   pub inverse_from_bezout : (a : List ℕ) → (field_values K).Valid a → a ≢ T.zero
       → (g u w : List ℕ)
@@ -81,7 +66,7 @@ module _ (K : Field) (W : IsFiniteField K) where
   inverse_from_bezout =
       Reductions.inverse_from_bezout P F f W.irreducible.not_constant W.monic W.irreducible
 
-  abbrev V : IsPropositional (field_values K)
+  abbrev pub V : IsPropositional (field_values K)
   V = values_propositional P K.polynomial
 
   abbrev half : List ℕ → ℕ → List ℕ

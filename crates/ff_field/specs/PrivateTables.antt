@@ -7,9 +7,10 @@
 --     IsTable p n m place table     row i of the table has the residue of place i k at its place k,
 --                                   for i < m and k < n
 use Rattle.std.specs.Prelude.{◌≡◌, ℕ, zero, suc, ◌+◌, ◌-◌, ◌*◌, ◌%◌, ◌<◌, List, [], length, slice_index, slice_index_or, All}
+use Rattle.alg_model.specs.Coefficients.{power}
 use Rattle.alg_model.specs.Values.{degree}
 use Rattle.ff_residues.specs.SumRows.{IsRowOf}
-use Rattle.alg_model.specs.Maps.{Field}
+use Rattle.alg_model.specs.Maps.{Field, field_values, generator, degree_of}
 use Rattle.ff_field.specs.SmallFields.{IsSmallField}
 use Rattle.ff_poly.specs.declared.TheConstants.{MAX_DEGREE}
 
@@ -41,3 +42,13 @@ IsRowTable p f = IsTable p (degree f) (degree f - 1) (λ i. power_place p f (deg
 pub record IsModulus (K : Field) (rows : List (List ℕ)) : Type 0 where
   pub small : IsSmallField K
   pub rows_are : IsRowTable K.characteristic K.polynomial rows
+
+-- the images of 1, x, x^2, .. under Frobenius
+abbrev pub IsFrobenius : Field → List (List ℕ) → Type 0
+IsFrobenius K = IsTable K.characteristic (degree_of K) (degree_of K)
+    (λ i. slice_index (power (field_values K).ops
+    (power (field_values K).ops (generator K) K.characteristic) i))
+
+pub record IsKept (K : Field) (frobenius : List (List ℕ)) : Type 0 where
+  pub small : IsSmallField K
+  pub frobenius_is : IsFrobenius K frobenius

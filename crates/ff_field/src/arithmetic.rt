@@ -1,13 +1,14 @@
 //! Constants of a field, sums and products.
-ghost use Rattle.std.specs.Prelude.{◌≡◌, ◌<◌, ◌≤◌, length, All};
+ghost use Rattle.std.specs.Prelude.{◌≡◌, ℕ, ◌+◌, ◌-◌, ◌%◌, ◌<◌, ◌≤◌, length, slice_index, All};
 ghost use Rattle.alg_model.specs.Coefficients.{mod_ops};
 ghost use Rattle.alg_model.specs.Polynomials.{trim};
 ghost use Rattle.alg_model.specs.Values.{remainder};
 ghost use Rattle.alg_model.specs.Maps.{field_values, generator, constant};
 ghost use Rattle.ff_field.specs.SmallFields.{IsSmallField};
 
+use crate::tables::zeros;
 use crate::{Field, Value};
-use ff_poly::{MAX_POLY, Poly, Prime};
+use ff_poly::{MAX_DEGREE, MAX_POLY, Poly, Prime};
 
 impl Field {
     /// Zero.
@@ -51,7 +52,9 @@ impl Field {
         ensures value { result ≡ (field_values self.now).ops.add a.now b.now }
         ensures valid { (field_values self.now).Valid result }
     {
-        self.reduced(&self.poly_of(a).add(&self.poly_of(b)))
+        let n = self.degree() as usize;
+        let row = sum_row(self.prime(), a.digits(), b.digits());
+        Value::padded(&row[..n], n)
     }
 
     /// The difference `a - b`.
@@ -71,7 +74,9 @@ impl Field {
         ensures value { result ≡ (field_values self.now).ops.neg a.now }
         ensures valid { (field_values self.now).Valid result }
     {
-        self.reduced(&self.poly_of(&self.zero()).sub(&self.poly_of(a)))
+        let n = self.degree() as usize;
+        let row = negative_row(self.prime(), a.digits());
+        Value::padded(&row[..n], n)
     }
 
     /// The product `a * b`.
@@ -118,4 +123,36 @@ pub(crate) fn poly_of(p: Prime, c: &[u8]) -> Poly
         Some(f) => f,
         None => unreachable!(),
     }
+}
+
+// The sum, place by place, with zeros after it.
+fn sum_row(p: Prime, a: &[u8], b: &[u8]) -> [u8; MAX_DEGREE]
+    requires room { length a.now ≤ MAX_DEGREE }
+    requires same { length a.now ≡ length b.now }
+    requires first { All (λ x. x < p) a.now }
+    requires second { All (λ x. x < p) b.now }
+    ensures len { length result ≡ MAX_DEGREE }
+    ensures places { (k : ℕ) → k < length a.now
+        → slice_index result k ≡ (slice_index a.now k + slice_index b.now k) % p }
+{
+    let mut row = zeros::<MAX_DEGREE>();
+    for k in 0..a.len() {
+        row[k] = p.add(a[k], b[k]);
+    }
+    row
+}
+
+// The negative, place by place, with zeros after it.
+fn negative_row(p: Prime, a: &[u8]) -> [u8; MAX_DEGREE]
+    requires room { length a.now ≤ MAX_DEGREE }
+    requires residues { All (λ x. x < p) a.now }
+    ensures len { length result ≡ MAX_DEGREE }
+    ensures places { (k : ℕ) → k < length a.now
+        → slice_index result k ≡ (p - slice_index a.now k) % p }
+{
+    let mut row = zeros::<MAX_DEGREE>();
+    for k in 0..a.len() {
+        row[k] = p.neg(a[k]);
+    }
+    row
 }

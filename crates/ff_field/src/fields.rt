@@ -4,7 +4,9 @@ ghost use Rattle.alg_model.specs.Coefficients.{residues};
 ghost use Rattle.alg_model.specs.Factors.{IsMonic, IsIrreducible};
 ghost use Rattle.alg_model.specs.Maps.{degree_of};
 ghost use Rattle.ff_field.specs.SmallFields.{IsSmallField};
+ghost use Rattle.ff_field.specs.PrivateTables.{IsFrobenius};
 
+use crate::frobenius::frobenius_columns;
 use crate::modulus::Modulus;
 use ff_poly::{MAX_DEGREE, Poly, Prime};
 use std::marker::Model;
@@ -14,17 +16,18 @@ use std::marker::Model;
 #[derive(Drop)]
 pub struct Field {
     modulus: Modulus,
+    frobenius: [[u8; MAX_DEGREE]; MAX_DEGREE],
 }
 
 impl Model for Field {
     ghost use Rattle.alg_model.specs.Maps as maps;
-    ghost use Rattle.ff_field.specs.SmallFields.{IsSmallField};
+    ghost use Rattle.ff_field.specs.PrivateTables.{IsKept};
 
     ghost Value = { maps.Field };
 
     ghost view = { λ a. a.modulus };
 
-    ghost invariant = { λ a. IsSmallField a.modulus };
+    ghost invariant = { λ a. IsKept a.modulus a.frobenius };
 }
 
 impl Field {
@@ -38,9 +41,9 @@ impl Field {
         ensures polynomial { result.polynomial ≡ f.coefficients }
         ensures whole { IsSmallField result }
     {
-        Field {
-            modulus: Modulus::new(f),
-        }
+        let modulus = Modulus::new(f);
+        let frobenius = frobenius_columns(&modulus);
+        Field { modulus, frobenius }
     }
 
     /// The characteristic.
@@ -76,6 +79,13 @@ impl Field {
         &self.modulus
     }
 
+    // The images of 1, x, x^2, .. under Frobenius.
+    pub(crate) fn frobenius(&self) -> &[[u8; MAX_DEGREE]; MAX_DEGREE]
+        ensures { IsFrobenius self.now result.now }
+    {
+        &self.frobenius
+    }
+
     /// An equal field.
     pub fn copy(&self) -> Field
         ensures same { result ≡ self.now }
@@ -83,6 +93,7 @@ impl Field {
     {
         Field {
             modulus: self.modulus.copy(),
+            frobenius: self.frobenius,
         }
     }
 }

@@ -8,6 +8,7 @@
 mod arithmetic;
 mod conjugates;
 mod fields;
+mod frobenius;
 mod inverses;
 mod laws;
 mod modulus;

@@ -15,15 +15,6 @@ impl Field {
     {
         self.modulus().pow(a, e)
     }
-
-    /// Frobenius: the power `a^p` for the characteristic `p`.
-    pub fn frob(&self, a: &Value) -> Value
-        requires { (field_values self.now).Valid a.now }
-        ensures value { result ≡ power (field_values self.now).ops a.now self.now.characteristic }
-        ensures valid { (field_values self.now).Valid result }
-    {
-        self.pow(a, self.prime().number() as u64)
-    }
 }
 
 impl Modulus {

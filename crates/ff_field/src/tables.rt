@@ -19,7 +19,7 @@ pub(crate) fn zeros<const W: usize>() -> [u8; W]
 }
 
 // The same row N times.
-fn repeated<const N: usize>(row: [u8; MAX_DEGREE]) -> [[u8; MAX_DEGREE]; N]
+pub(crate) fn repeated<const N: usize>(row: [u8; MAX_DEGREE]) -> [[u8; MAX_DEGREE]; N]
     requires { N ≤ MAX_DEGREE }
     ensures len { length result ≡ N }
     ensures rows { (p : ℕ) → IsRowOf p MAX_DEGREE row → All (IsRowOf p MAX_DEGREE) result }

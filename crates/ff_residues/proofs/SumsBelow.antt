@@ -2,7 +2,7 @@
 use Rattle.std.proofs.Common.{◌≡◌, ◌≢◌, ℕ, zero, suc, ◌+◌, ◌*◌, ◌%◌, ◌<◌, ◌≤◌, refl, ap, ap₂, sym, ◌∙◌, arith, ⊎_elim}
 use Rattle.std.proofs.lemmas.Bool.{cases_eq}
 use Rattle.std.proofs.lemmas.Nat.{mul-mod_second}
-use native.Mathlib.Nat.{mod-add-mod, add-mod-mod, add-zero, zero-add, add_assoc, mul-zero}
+use native.Mathlib.Nat.{mod-add-mod, add-mod-mod, add-zero, zero-add, add_assoc}
 use Rattle.ff_residues.specs.SumRows.{sum_below}
 
 -- sums of numbers that agree modulo p agree

@@ -1,11 +1,11 @@
-use Rattle.std.proofs.Common.{◌≡◌, ◌-◌, ◌+◌, ◌*◌, ◌%◌, ◌<◌, List, length, slice_index, All, ap, ap₂, sym, ◌∙◌, subst, arith, ⊎_elim}
+use Rattle.std.proofs.Common.{◌≡◌, ◌-◌, ◌+◌, ◌*◌, ◌%◌, ◌<◌, length, slice_index, ap₂, sym, ◌∙◌, subst, arith, ⊎_elim}
 use Rattle.std.proofs.lemmas.Bool.{cases_lt}
 use Rattle.std.proofs.lemmas.Nat.{mod_below}
 use Rattle.std.proofs.lemmas.List.Elements.{All-from_get_or}
 use Rattle.ff_poly.specs.declared.TheConstants.{MAX_DEGREE}
 use Rattle.ff_residues.proofs.ResidueLists.{below_at}
 use Rattle.ff_residues.proofs.ChangedPlaces.{one_changed}
-use Rattle.ff_field.specs.PrivateTables.{place_before, times_x_place}
+use Rattle.ff_field.specs.PrivateTables.{times_x_place}
 use Rattle.ff_field.proofs.RemainderRows.{reduced_step}
 use Rattle.ff_field.proofs.tables.times_x.Goals as goal
 

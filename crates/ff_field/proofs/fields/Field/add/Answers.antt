@@ -1,19 +1,25 @@
-use Rattle.std.proofs.Common.{ap, ap₂, ◌∙◌}
-use Rattle.alg_model.specs.Coefficients.{mod_ops}
-use Rattle.alg_model.specs.Polynomials.{poly_sum}
-use Rattle.alg_model.specs.Values.{remainder}
-use Rattle.ff_field.proofs.SmallFieldLaws.{sum_of_values}
+use Rattle.std.proofs.Common.{◌-◌, ◌+◌, ◌%◌, ◌++◌, length, take, replicate, slice_index, ap, ap₂, sym, ◌∙◌, subst, arith}
+use Rattle.alg_model.specs.Maps.{field_values}
+use Rattle.ff_field.proofs.RowProducts.{value_of_places, sum_valid, sum_place}
 use Rattle.ff_field.proofs.fields.Field.add.Goals as goal
 
 pub returns-clause-value : goal.returns-clause-value
 returns-clause-value c =
     let K = c.args.self.now in
-    let o = mod_ops K.characteristic in
-    let f = c.poly_of.result.coefficients in
-    let g = c.poly_of-2.result.coefficients in
-    c.reduced.ensures.value
-    ∙ ap (remainder o K.polynomial) (c.add.ensures.sum
-    ∙ ap (λ p. poly_sum (mod_ops p) f g) c.poly_of.ensures.prime
-    ∙ ap₂ (poly_sum o) c.poly_of.ensures.coefficients c.poly_of-2.ensures.coefficients)
-    ∙ sum_of_values K c.poly_of.ensures.whole.finite c.args.a.now c.args.b.now
-    c.requires.first c.requires.second
+    let W = c.degree-n.ensures.whole.finite in
+    let row = c.sum_row-row.result in
+    c.padded.ensures
+    ∙ ap (λ n. take n row ++ replicate (n - length (take n row)) 0) c.degree-n.ensures.value
+    ∙ value_of_places K W row ((field_values K).ops.add c.args.a.now c.args.b.now)
+    (sum_valid K W c.args.a.now c.args.b.now c.requires.first c.requires.second)
+    (omega (arith, c.sum_row-row.ensures.len, c.degree-n.ensures.whole.fits))
+    (sum_place K c.args.a.now c.args.b.now c.requires.first c.requires.second row
+    (λ k l. c.sum_row-row.ensures.places k (let e = ap length c.digits.ensures.value in omega (arith, e, c.requires.first.1))
+    ∙ ap₂ (λ u v. (u + v) % c.prime.result) (ap (λ v. slice_index v k) c.digits.ensures.value)
+    (ap (λ v. slice_index v k) c.digits-2.ensures.value)
+    ∙ ap (λ q. (slice_index c.args.a.now k + slice_index c.args.b.now k) % q) c.prime.ensures.value))
+
+pub returns-clause-valid : goal.returns-clause-valid
+returns-clause-valid c = subst (field_values c.args.self.now).Valid (sym (returns-clause-value c))
+    (sum_valid c.args.self.now c.degree-n.ensures.whole.finite c.args.a.now c.args.b.now
+    c.requires.first c.requires.second)

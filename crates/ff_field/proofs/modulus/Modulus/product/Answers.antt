@@ -1,5 +1,5 @@
-use Rattle.std.proofs.Common.{◌≡◌, ◌-◌, ◌≤◌, ◌++◌, length, take, replicate, slice_index, ap, ap₂, sym, ◌∙◌, subst, arith}
-use Rattle.alg_model.specs.Maps.{field_values, degree_of}
+use Rattle.std.proofs.Common.{◌-◌, ◌++◌, length, take, replicate, slice_index, ap, ap₂, sym, ◌∙◌, subst, arith}
+use Rattle.alg_model.specs.Maps.{field_values}
 use Rattle.ff_field.proofs.RowProducts.{value_of_places, product_of_valid}
 use Rattle.ff_field.proofs.modulus.Modulus.product.Goals as goal
 

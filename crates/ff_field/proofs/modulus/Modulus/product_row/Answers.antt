@@ -1,10 +1,9 @@
-use Rattle.std.proofs.Common.{◌≡◌, ◌+◌, ◌-◌, ◌*◌, ◌%◌, ◌<◌, ◌≤◌, All, length, take, slice_index, ap, ap₂, sym, ◌∙◌, subst, rules, arith, length-take, get_or-take}
-use native.Mathlib.Nat.{mod-mod}
+use Rattle.std.proofs.Common.{◌≡◌, ◌+◌, ◌-◌, ◌%◌, ◌<◌, ◌≤◌, All, length, take, slice_index, ap, ap₂, sym, ◌∙◌, subst, rules, arith, length-take, get_or-take}
 use Rattle.alg_model.specs.Polynomials.{convolution}
 use Rattle.alg_model.specs.Maps.{degree_of}
 use Rattle.alg_rings.proofs.Residues.{nat_ops}
 use Rattle.ff_residues.specs.SumRows.{residue_at, row_sum, shifted_sum}
-use Rattle.ff_field.proofs.RowProducts.{between_residues, shifted_is_product, product_by_rows}
+use Rattle.ff_field.proofs.RowProducts.{shifted_is_product, product_by_rows}
 use Rattle.ff_field.proofs.modulus.Modulus.product_row.Goals as goal
 
 pub returns-clause-places : goal.returns-clause-places

@@ -1,4 +1,4 @@
-use Rattle.std.proofs.Common.{◌≡◌, ◌+◌, ◌-◌, ◌*◌, ◌%◌, ◌<◌, slice_index, ap, ap₂, sym, ◌∙◌, arith}
+use Rattle.std.proofs.Common.{◌≡◌, ◌+◌, ◌-◌, ◌*◌, ◌%◌, slice_index, ap₂, ◌∙◌, arith}
 use Rattle.ff_residues.specs.SumRows.{residue_at}
 use Rattle.ff_residues.proofs.SumRows.{one_added}
 use Rattle.ff_residues.proofs.sums.Sums.add_shifted.Goals as goal
