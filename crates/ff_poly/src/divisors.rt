@@ -42,8 +42,8 @@ impl Poly {
     /// w * b = g`.
     ///
     /// The extended algorithm of Euclid: each remainder is kept with its own `u` and `w`. They are
-    /// short: `u` has no more coefficients than `b` has beyond those of `g`, or it is 1, and so has
-    /// `w` for `a`.
+    /// short: `u` has no more coefficients than `b` has beyond those of `g`, or it is a constant,
+    /// and so has `w` for `a`.
     pub fn bezout(&self, b: &Poly) -> Bezout
         requires same_prime { self.now.prime ≡ b.now.prime }
         requires not_both_zero { 0 < length self.now.coefficients + length b.now.coefficients }

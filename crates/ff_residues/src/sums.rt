@@ -9,8 +9,8 @@ use std::marker::Model;
 
 /// `W` residues modulo a prime, to which multiples of rows of residues are added.
 ///
-/// They are kept as sums of products below 2^15, and all are reduced only where one product more
-/// might not fit.
+/// They are kept as sums of products below 2^15, and all are reduced where one product more might
+/// not fit.
 #[derive(Clone, Copy)]
 pub struct Sums<const W: usize> {
     prime: Prime,

@@ -151,7 +151,7 @@ pub fn parse(alloc: Global, bytes: &[u8]) -> Result<Script, ScriptFault>
     ensures every_fault { (n kind : ℕ) → FirstBad bytes.now n kind
         → (result ≡ Err (ScriptFault.Line n kind)) ⊎ (result ≡ Err ScriptFault.NoMemory) }
 
-    // Memory is taken for commands alone.
+    // Memory is wanted only where some first lines spell a script that has a command.
     ensures memory { result ≡ Err ScriptFault.NoMemory → LeadsToCommand bytes.now }
 {
     read(alloc, bytes)
