@@ -6,9 +6,9 @@ ghost use Rattle.alg_model.specs.Roots.{IsLeastIrreducible};
 ghost use Rattle.ff_factor.specs.PrivateCounting.{number};
 
 use crate::linear::linear_factor;
-use crate::polynomials::poly_of;
 use crate::splitting::{Finding, split};
 use arrayvec::ArrayVec;
+use ff_lists::fixed;
 use ff_poly::{MAX_DEGREE, MAX_POLY, Poly, Prime};
 
 /// The first monic irreducible polynomial of degree `d` in the order of polynomials.
@@ -50,12 +50,9 @@ fn monic(p: Prime, lower: &[u8]) -> Poly
     ensures coefficients { result.coefficients ≡ lower.now ++ 1 ∷ [] }
 {
     let _number = p.number();
-    let mut numbers = ArrayVec::<u8, MAX_POLY>::new();
-    match numbers.try_extend_from_slice(lower) {
-        Ok(()) => numbers.push(1),
-        Err(_) => unreachable!(),
-    }
-    poly_of(p, numbers.as_slice())
+    let mut numbers = fixed::<MAX_POLY>(lower);
+    numbers.push(1);
+    Poly::trimmed(p, numbers.as_slice())
 }
 
 // Whether f is irreducible.

@@ -6,7 +6,6 @@ ghost use Rattle.alg_model.specs.Polynomials.{evaluate};
 ghost use Rattle.alg_model.specs.Factors.{IsIrreducible, IsLeastFactor};
 ghost use Rattle.ff_factor.specs.PrivateSplitting.{IsLeastNegativeRoot};
 
-use crate::polynomials::poly_of;
 use ff_poly::{Poly, Prime};
 
 /// The least factor `x + c` of `f`, where `f` is of degree above 1 and has one: the first `c` where
@@ -22,7 +21,7 @@ pub(crate) fn linear_factor(f: &Poly) -> Option<Poly>
         return None;
     }
     match least_negative_root(p, f.coefficients()) {
-        Some(c) => Some(poly_of(p, &[c, 1])),
+        Some(c) => Some(Poly::trimmed(p, &[c, 1])),
         None => None,
     }
 }

@@ -6,26 +6,13 @@ ghost use Rattle.alg_model.specs.Polynomials.{trim};
 use arrayvec::ArrayVec;
 use ff_poly::{MAX_POLY, Poly, Prime};
 
-/// The polynomial with these coefficients, lowest first; zeros at the end are dropped.
-pub(crate) fn poly_of(p: Prime, c: &[u8]) -> Poly
-    requires room { length c.now ≤ MAX_POLY }
-    requires residues { All (λ x. x < p) c.now }
-    ensures prime { result.prime ≡ p }
-    ensures coefficients { result.coefficients ≡ trim (mod_ops p) c.now }
-{
-    match Poly::of_slice(p, c) {
-        Some(f) => f,
-        None => unreachable!(),
-    }
-}
-
 /// The polynomial `x`.
 pub(crate) fn variable(p: Prime) -> Poly
     ensures prime { result.prime ≡ p }
     ensures coefficients { result.coefficients ≡ 0 ∷ 1 ∷ [] }
 {
     let _number = p.number();
-    poly_of(p, &[0, 1])
+    Poly::trimmed(p, &[0, 1])
 }
 
 /// The constant polynomial `c`.
@@ -34,7 +21,7 @@ pub(crate) fn constant(p: Prime, c: u8) -> Poly
     ensures prime { result.prime ≡ p }
     ensures coefficients { result.coefficients ≡ trim (mod_ops p) (c ∷ []) }
 {
-    poly_of(p, &[c])
+    Poly::trimmed(p, &[c])
 }
 
 /// The polynomial with the constant coefficient 0 and then these coefficients.
@@ -46,7 +33,7 @@ pub(crate) fn without_constant(p: Prime, c: &[u8]) -> Poly
 {
     let _number = p.number();
     let numbers = after_zero(c);
-    poly_of(p, numbers.as_slice())
+    Poly::trimmed(p, numbers.as_slice())
 }
 
 // The number 0 and then these numbers.

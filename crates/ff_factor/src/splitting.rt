@@ -13,7 +13,7 @@ ghost use Rattle.ff_factor.specs.PrivateSplitting.{IsFinding, IsNonzeroKernelCol
 
 use crate::Cert;
 use crate::columns::matrix_in_turn;
-use crate::polynomials::{constant, every, poly_of, without_constant};
+use crate::polynomials::{constant, every, without_constant};
 use ff_lists::Copies;
 use ff_matrix::{Column, Echelon, Matrix};
 use ff_poly::{MAX_DEGREE, Poly};
@@ -85,7 +85,7 @@ fn power_root(f: &Poly) -> Poly
 {
     let p = f.prime();
     let numbers = every(f.coefficients(), p.number() as usize);
-    poly_of(p, numbers.as_slice())
+    Poly::trimmed(p, numbers.as_slice())
 }
 
 // The certificate of these parts.

@@ -8,7 +8,7 @@ ghost use Rattle.ff_field.specs.SmallFields.{IsSmallField};
 
 use crate::tables::zeros;
 use crate::{Field, Value};
-use ff_poly::{MAX_DEGREE, MAX_POLY, Poly, Prime};
+use ff_poly::{MAX_DEGREE, Poly, Prime};
 
 impl Field {
     /// Zero.
@@ -98,7 +98,7 @@ impl Field {
         ensures short { length result.coefficients ≤ length a.now }
         ensures whole { IsSmallField self.now }
     {
-        poly_of(self.prime(), a.digits())
+        Poly::trimmed(self.prime(), a.digits())
     }
 
     // The value of a polynomial: its remainder by that of the field.
@@ -109,19 +109,6 @@ impl Field {
         ensures valid { (field_values self.now).Valid result }
     {
         self.modulus().reduced(g)
-    }
-}
-
-// The polynomial with these coefficients, lowest first; zeros at the end are dropped.
-pub(crate) fn poly_of(p: Prime, c: &[u8]) -> Poly
-    requires room { length c.now ≤ MAX_POLY }
-    requires residues { All (λ x. x < p) c.now }
-    ensures prime { result.prime ≡ p }
-    ensures coefficients { result.coefficients ≡ trim (mod_ops p) c.now }
-{
-    match Poly::of_slice(p, c) {
-        Some(f) => f,
-        None => unreachable!(),
     }
 }
 

@@ -6,10 +6,6 @@ use crate::{Field, Value};
 
 impl Field {
     /// The inverse of `a`, or `None` where `a` is zero.
-    ///
-    /// The polynomial f of the field is irreducible, so that its greatest common divisor with the
-    /// polynomial of `a` is 1. Euclid's extended algorithm gives it as u a + w f, and u is the
-    /// inverse modulo f.
     pub fn inv(&self, a: &Value) -> Option<Value>
         requires { (field_values self.now).Valid a.now }
         ensures some { IsSome result ↔ (a.now ≢ (field_values self.now).ops.zero) }
@@ -20,9 +16,24 @@ impl Field {
         if self.is_zero(a) {
             return None;
         }
+        Some(self.inverse(a))
+    }
+
+    /// The inverse of `a`, which isn't zero.
+    ///
+    /// The polynomial f of the field is irreducible, so that its greatest common divisor with the
+    /// polynomial of `a` is 1. Euclid's extended algorithm gives it as u a + w f, and u is the
+    /// inverse modulo f.
+    pub fn inverse(&self, a: &Value) -> Value
+        requires valid { (field_values self.now).Valid a.now }
+        requires not_zero { a.now ≢ (field_values self.now).ops.zero }
+        ensures inverse { (field_values self.now).ops.mul a.now result
+            ≡ (field_values self.now).ops.one }
+        ensures valid { (field_values self.now).Valid result }
+    {
         let bezout = self.poly_of(a).bezout(self.poly());
         let _first = bezout.u.prime();
         let _second = bezout.w.prime();
-        Some(self.reduced(&bezout.u))
+        self.reduced(&bezout.u)
     }
 }

@@ -9,7 +9,6 @@ ghost use Rattle.ff_field.specs.PrivateTables.{IsRowTable};
 ghost use Rattle.ff_residues.specs.SumRows.{residue_at, shifted_sum};
 
 use crate::Value;
-use crate::arithmetic::poly_of;
 use crate::tables::{SPAN, power_rows, zeros};
 use ff_poly::{MAX_DEGREE, Poly, Prime};
 use ff_residues::Sums;
@@ -115,7 +114,7 @@ impl Modulus {
         ensures value { result ≡ generator self.now }
         ensures valid { (field_values self.now).Valid result }
     {
-        self.reduced(&poly_of(self.prime(), &[0, 1]))
+        self.reduced(&Poly::trimmed(self.prime(), &[0, 1]))
     }
 
     // The value of a polynomial: its remainder by that of the field.

@@ -62,8 +62,11 @@ impl Poly {
         Some(Poly::trimmed(p, c))
     }
 
-    /// The polynomial with the residues `c` as coefficients; zeros at the end are dropped.
-    pub(crate) fn trimmed(p: Prime, c: &[u8]) -> Poly
+    /// The polynomial with the residues `c` as coefficients, lowest first; zeros at the end are
+    /// dropped.
+    ///
+    /// There are at most `MAX_POLY`, each below `p`.
+    pub fn trimmed(p: Prime, c: &[u8]) -> Poly
         requires room { length c.now ≤ MAX_POLY }
         requires residues { All (λ x. x < p) c.now }
         ensures prime { result.prime ≡ p }

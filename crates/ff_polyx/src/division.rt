@@ -5,7 +5,7 @@ ghost use Rattle.alg_model.specs.Factors.{IsPolynomial, IsDivision};
 ghost use Rattle.alg_model.specs.Maps.{field_values};
 
 use crate::PolyX;
-use crate::places::{add_multiple, inverse_of, padded};
+use crate::places::{add_multiple, padded};
 use ff_field::{Field, Value};
 
 impl PolyX {
@@ -56,7 +56,7 @@ fn divide(field: &Field, rest: &mut [Value], quotient: &mut [Value], d: &[Value]
 {
     let _prime = field.prime();
     let degree = d.len() - 1;
-    let inverse = inverse_of(field, &d[degree]);
+    let inverse = field.inverse(&d[degree]);
     let mut at = quotient.len();
     while at > 0 {
         at -= 1;

@@ -4,7 +4,6 @@ ghost use Rattle.alg_model.specs.Factors.{IsPolynomial, IsGreatestCommonDivisor}
 ghost use Rattle.alg_model.specs.Maps.{field_values};
 
 use crate::PolyX;
-use crate::places::inverse_of;
 use ff_field::Field;
 
 impl PolyX {
@@ -39,6 +38,6 @@ fn made_monic(field: &Field, a: &PolyX) -> PolyX
     if coefficients.is_empty() {
         return a.copy();
     }
-    let inverse = inverse_of(field, &coefficients[coefficients.len() - 1]);
+    let inverse = field.inverse(&coefficients[coefficients.len() - 1]);
     PolyX::mul(field, &PolyX::of_values(field, &[inverse]), a)
 }

@@ -52,17 +52,3 @@ pub(crate) fn add_multiple(
         places[at + j] = field.add(&places[at + j], &multiple);
     }
 }
-
-/// The inverse of a value that isn't zero.
-pub(crate) fn inverse_of(field: &Field, a: &Value) -> Value
-    requires valid { (field_values field.now).Valid a.now }
-    requires not_zero { a.now ≢ (field_values field.now).ops.zero }
-    ensures inverse { (field_values field.now).ops.mul a.now result
-        ≡ (field_values field.now).ops.one }
-    ensures valid { (field_values field.now).Valid result }
-{
-    match field.inv(a) {
-        Some(inverse) => inverse,
-        None => unreachable!(),
-    }
-}

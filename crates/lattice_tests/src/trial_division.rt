@@ -38,10 +38,7 @@ fn polynomial_of(p: Prime, number: u32) -> Poly
     ensures prime { result.prime ≡ p }
     ensures value { number_of p result.coefficients ≡ number }
 {
-    match Poly::of_slice(p, digits_of(p, number).as_slice()) {
-        Some(polynomial) => polynomial,
-        None => unreachable!(),
-    }
+    Poly::trimmed(p, digits_of(p, number).as_slice())
 }
 
 // Whether g divides f.

@@ -8,4 +8,4 @@ pub returns-clause-coefficients : goal.returns-clause-coefficients
 returns-clause-coefficients c =
     let above : 1 < c.args.p = omega (arith, c.number-number.ensures.small, c.number-number.ensures.value) in
     let e : c.as_slice.result.now ≡ c.args.lower.now ++ 1 ∷ [] = search rules in
-    c.poly_of.ensures.coefficients ∙ ap (trim (mod_ops c.args.p)) e ∙ candidate_trimmed c.args.p c.args.lower.now above
+    c.trimmed.ensures.coefficients ∙ ap (trim (mod_ops c.args.p)) e ∙ candidate_trimmed c.args.p c.args.lower.now above

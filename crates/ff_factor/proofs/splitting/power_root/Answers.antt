@@ -18,8 +18,8 @@ valid c =
     let whole = c.prime-p.ensures.whole in
     all_from_places c.args.f.now.prime whole.characteristic c.args.f.now.coefficients c.as_slice.result.now c.args.f.now.prime whole.polynomial.0 (places c)
 
-pub poly_of-requires-clause-residues : goal.poly_of-requires-clause-residues
-poly_of-requires-clause-residues c = subst (λ p. All (λ x. x < p) c.as_slice.result.now) (sym c.prime-p.ensures.value) (valid c)
+pub trimmed-requires-clause-residues : goal.trimmed-requires-clause-residues
+trimmed-requires-clause-residues c = subst (λ p. All (λ x. x < p) c.as_slice.result.now) (sym c.prime-p.ensures.value) (valid c)
 
 pub returns-clause-factor : goal.returns-clause-factor
 returns-clause-factor c =
@@ -29,8 +29,8 @@ returns-clause-factor c =
     let whole = c.prime-p.ensures.whole in
     let R = (residues_field p whole.characteristic).ring in
     let v = trim_polynomial (residues_propositional p) R xs (valid c.before) in
-    let same : trim (mod_ops p) xs ≡ c.poly_of.result.coefficients =
-    sym (c.poly_of.ensures.coefficients ∙ ap (λ q. trim (mod_ops q) xs) c.prime-p.ensures.value) in
+    let same : trim (mod_ops p) xs ≡ c.trimmed.result.coefficients =
+    sym (c.trimmed.ensures.coefficients ∙ ap (λ q. trim (mod_ops q) xs) c.prime-p.ensures.value) in
     subst (IsProperFactor (residues p) f) same
     (root_is_factor p whole.characteristic f (trim (mod_ops p) xs) whole.polynomial v c.requires.monic c.requires.not_constant c.requires.derivative
     (λ i. trim_at (residues_propositional p) R xs i (valid c.before) ∙ places c.before i))

@@ -37,14 +37,14 @@ loop-at-preserved c =
       rest_len = c.add_multiple.ensures.len ∙ h.rest_len;
       known = division_round (propositional K) (ring K c.prime-prime.ensures.whole) degree at
           c.loop-at.quotient d c.loop-at.rest c.add_multiple.new.places c.args.rest.now
-          c.mul-factor.result c.inverse_of-inverse.result known c.requires.values
-          c.add_multiple.ensures.values c.inverse_of-inverse.ensures.valid (omega arith)
-          (ap (λ x. o.mul x c.inverse_of-inverse.result)
+          c.mul-factor.result c.inverse-inverse.result known c.requires.values
+          c.add_multiple.ensures.values c.inverse-inverse.ensures.valid (omega arith)
+          (ap (λ x. o.mul x c.inverse-inverse.result)
           (sym (get_or_read_under d degree (length d) c.index-d-degree.result o.zero
           c.index-d-degree.is (omega arith) refl))
-          ∙ c.inverse_of-inverse.ensures.inverse)
+          ∙ c.inverse-inverse.ensures.inverse)
           (c.mul-factor.ensures.value
-          ∙ ap (λ x. o.mul x c.inverse_of-inverse.result)
+          ∙ ap (λ x. o.mul x c.inverse-inverse.result)
           (get_or_default c.loop-at.rest (at + degree) c.index-rest-at.result o.zero
           (omega (arith, h.rest_len, h.quotient_len, c.requires.steps))))
           c.add_multiple.ensures.below

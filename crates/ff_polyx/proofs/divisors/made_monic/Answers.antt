@@ -9,8 +9,8 @@ use Rattle.ff_polyx.proofs.FieldCarriers.{propositional, field, ring}
 use Rattle.ff_polyx.proofs.ValuePlaces.{last_read}
 use Rattle.ff_polyx.proofs.divisors.made_monic.Goals as goal
 
-pub inverse_of-inverse-requires-clause-not_zero : goal.inverse_of-inverse-requires-clause-not_zero
-inverse_of-inverse-requires-clause-not_zero c z =
+pub inverse-inverse-requires-clause-not_zero : goal.inverse-inverse-requires-clause-not_zero
+inverse-inverse-requires-clause-not_zero c z =
     let K = c.args.field.now in
     let P = propositional K in
     let R = ring K c.prime-prime.ensures.whole in
@@ -30,13 +30,13 @@ returns c =
     let F = field K c.prime-prime.ensures.whole in
     let f = c.args.a.now in
     let g = c.coefficients-coefficients.result.now in
-    let i = c.inverse_of-inverse.result in
+    let i = c.inverse-inverse.result in
     let same = c.coefficients-coefficients.ensures.value in
     let some : g ≢ [] = λ e. let l : length g ≡ 0 = ap length e in grind (arith, nat_tests) in
     let last = last_read P F.ring f g c.index-coefficients-coefficients.result same
     (length_not_nil g some) c.index-coefficients-coefficients.is in
     subst (IsGreatestCommonDivisor v f []) (sym c.mul.ensures.product)
     (multiple_gcd P F f c.of_values.result i c.requires (λ e. some (same ∙ e))
-    c.inverse_of-inverse.ensures.valid
-    (ap (λ x. v.ops.mul x i) last ∙ c.inverse_of-inverse.ensures.inverse)
+    c.inverse-inverse.ensures.valid
+    (ap (λ x. v.ops.mul x i) last ∙ c.inverse-inverse.ensures.inverse)
     c.of_values.ensures.coefficients)

@@ -4,7 +4,7 @@ use Rattle.alg_model.specs.Polynomials.{trim, poly_sum, poly_product}
 use Rattle.alg_model.specs.Factors.{IsPolynomial, IsGreatestCommonDivisor}
 use Rattle.alg_model.specs.Maps.{field_values}
 use Rattle.ff_field.proofs.SmallFieldLaws.{inverse_from_bezout}
-use Rattle.ff_field.proofs.fields.Field.inv.Goals as goal
+use Rattle.ff_field.proofs.fields.Field.inverse.Goals as goal
 
 pub returns-clause-inverse : goal.returns-clause-inverse
 returns-clause-inverse c =
@@ -17,7 +17,6 @@ returns-clause-inverse c =
     let e = c.bezout-bezout.ensures in
     let q = c.poly_of.ensures.prime in
     let b = c.poly_of.result.coefficients in
-    let not_zero : a ≢ (field_values K).ops.zero = λ z. let t = c.is_zero.ensures.1 z in cc in
     let f = c.poly.result.now.coefficients in
     let eb = c.poly_of.ensures.coefficients in
     let ef = c.poly.ensures.coefficients in
@@ -34,4 +33,4 @@ returns-clause-inverse c =
     (sym q)
     ∙ e.identity in
     ap ((field_values K).ops.mul a) c.reduced.ensures.value
-    ∙ inverse_from_bezout K c.poly.ensures.whole.finite a c.requires not_zero g u w vu vw d same
+    ∙ inverse_from_bezout K c.poly.ensures.whole.finite a c.requires.valid c.requires.not_zero g u w vu vw d same
