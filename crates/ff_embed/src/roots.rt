@@ -41,6 +41,7 @@ fn by_powers(from: &Field, into: &Field, v: &Value) -> Embedding
     ensures images { result.images ≡ powers into.now v.now (degree_of from.now) }
     ensures whole { IsSmallEmbedding result }
 {
+    let _target = into.degree();
     let images = power_columns(into, v, from.degree() as usize);
     let inverse = images.left_inverse();
     let _prime = inverse.prime();
@@ -74,8 +75,7 @@ fn power_columns(field: &Field, v: &Value, n: usize) -> Columns
 {
     let mut columns = Columns::new(field.prime(), field.degree() as usize);
     let mut power = field.one();
-    for k in 0..n {
-        let _ = k;
+    'powers: for _k in 0..n {
         columns.push(power.digits());
         power = field.mul(&power, v);
     }
