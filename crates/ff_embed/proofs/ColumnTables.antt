@@ -73,7 +73,8 @@ beginning_of_row n row column l fits same =
 -- **a place of what the matrix gives, by whole rows of the table**
 pub applied_place : (p n m : ℕ) (table : List (List ℕ)) → AreColumns p n m table → (x : List ℕ)
     → length x ≡ m → (k : ℕ) → k < n
-    → slice_index (matrix_apply (mod_ops p) (record { rows = n; columns = columns_in n m table }) x) k
+    → slice_index
+    (matrix_apply (mod_ops p) (record { rows = n; columns = columns_in n m table }) x) k
     ≡ row_sum (length x) x table k % p
 applied_place p n m table A x e k l =
     let fits : m ≤ length table = omega (arith, A.long, A.columns_fit) in

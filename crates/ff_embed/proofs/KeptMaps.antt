@@ -53,7 +53,8 @@ product_is_comp F a b m n p r c d =
 
 -- ---- a root
 module _ (E F : Field) (S : IsSmallField E) (T : IsSmallField F) (v : List ℕ)
-    (same : E.characteristic ≡ F.characteristic) (root : IsRoot F (constants F E.polynomial) v) where
+    (same : E.characteristic ≡ F.characteristic)
+    (root : IsRoot F (constants F E.polynomial) v) where
   root_embedding : IsEmbedding E F (powers F v (degree_of E))
   root_embedding = (embedding_of_root E F S.finite T.finite same v root).0
 
