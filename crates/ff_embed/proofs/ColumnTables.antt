@@ -1,10 +1,10 @@
 -- Columns in a table of constant width, as a matrix.
-use Rattle.std.proofs.Common.{◌≡◌, ℕ, zero, suc, ◌+◌, ◌*◌, ◌%◌, ◌<◌, ◌≤◌, List, [], ◌∷◌, ◌++◌, length, map, take, replicate, slice_set, slice_index, slice_index_or, All, ap, sym, ◌∙◌, subst, arith, get_or-take}
+use Rattle.std.proofs.Common.{◌≡◌, ℕ, ◌+◌, ◌*◌, ◌%◌, ◌<◌, ◌≤◌, List, [], ◌∷◌, ◌++◌, length, map, take, replicate, slice_set, slice_index, slice_index_or, ap, sym, ◌∙◌, subst, arith, get_or-take}
 use Rattle.std.proofs.lemmas.List.{length-map, length-take-le, length-replicate, length-set, get_or-map, get_or-replicate, map-append, take_more_set, ext_get_or}
 use Rattle.std.proofs.lemmas.List.Elements.{All-get_or, All-set, All-replicate, All-from_get_or, All-take}
 use Rattle.std.proofs.Math.Seq.{take-set-lt}
-use Rattle.alg_model.specs.Coefficients.{residues, mod_ops, IsCharacteristic}
-use Rattle.alg_model.specs.Matrices.{matrix_apply, combination, unit_column, IsColumn}
+use Rattle.alg_model.specs.Coefficients.{residues, mod_ops}
+use Rattle.alg_model.specs.Matrices.{matrix_apply, unit_column, IsColumn}
 use Rattle.alg_linear.proofs.Columns.{length_combination}
 use Rattle.alg_linear.proofs.CarrierMatrices.{columns_long}
 use Rattle.ff_residues.specs.SumRows.{IsRowOf, row_sum}
