@@ -37,11 +37,6 @@ contains_or_not vs v = ⊎_elim
     (search_below (λ k. slice_index_or vs k v ≡ v) (length vs)
     (λ k l. lists_equal_or_not cases_eq (slice_index_or vs k v) v))
 
--- a list that isn't empty has a member
-length_positive : {X : Type 0} (f : List X) → f ≢ [] → 0 < length f
-length_positive [] n = absurd (n refl)
-length_positive (x ∷ f) n = omega arith
-
 module _ (F : Field) (W : IsFiniteField F) where
   abbrev O : Ops (Element (field_values F))
   O = element_ops (values_ring F W)
@@ -118,8 +113,8 @@ module _ (F : Field) (W : IsFiniteField F) where
           (differ (λ v. not (at_zero v))) of_q,
       length_poly_product (values_set F) (values_field F W) q g vq vg quotient_not_zero not_zero,
       ap length s,
-      length_positive g not_zero,
-      length_positive q quotient_not_zero,
+      Lists.length_not_nil g not_zero,
+      Lists.length_not_nil q quotient_not_zero,
     );
     different = differ at_zero;
     are_roots = of_g;
