@@ -1,6 +1,7 @@
 -- The values of sums, products and powers of polynomials, over the elements of any ring.
-use Rattle.std.proofs.Common.{◌≡◌, ℕ, zero, suc, List, [], ◌∷◌, map, All, length, slice_index_or, refl, ap, ap₂, sym, ◌∙◌, subst}
+use Rattle.std.proofs.Common.{◌≡◌, ℕ, zero, suc, ◌<◌, List, [], ◌∷◌, map, All, length, slice_index_or, refl, ap, ap₂, sym, ◌∙◌, arith}
 use Rattle.std.proofs.lemmas.List.{length-map}
+use Rattle.std.proofs.lemmas.List.Elements.{All-nil}
 use Rattle.alg_model.specs.Coefficients.{Ops, Carrier, power}
 use Rattle.alg_model.specs.Polynomials.{sum, scale, product, trim, poly_sum, poly_negative, poly_difference, poly_product, poly_power, evaluate}
 use Rattle.alg_model.specs.Factors.{IsDivision, Divides}
@@ -9,12 +10,13 @@ use Rattle.alg_rings.specs.Laws.{IsPropositional, RingLaws}
 use Rattle.alg_rings.proofs.Rings
 use Rattle.alg_rings.proofs.Powers
 use Rattle.alg_rings.proofs.Folds.{fold, fold_same, fold-map, sums_kept}
-use Rattle.alg_rings.proofs.Elements.{Element, underlying, on_valid, on_valid₂, on_elements}
+use Rattle.alg_rings.proofs.Elements.{Element, element_ops, underlying, on_valid, on_valid₂, on_elements}
 use Rattle.alg_rings.proofs.Homomorphisms.{evaluate-map, trim-map, sum-map, scale-map, negatives-map, product-map, poly_power-map, power-map, place-map}
 use Rattle.alg_rings.proofs.Validity.{sum_valid, negatives_valid, product_valid, trim_valid, value_at_valid}
 use Rattle.alg_rings.proofs.Evaluation
 use Rattle.alg_linear.specs.PrivateGrids.{total}
-use Rattle.alg_linear.proofs.Sums.{total_scale, total_same}
+use Rattle.alg_linear.proofs.Sums.{total_scale, total_same, total_last}
+use Rattle.alg_splitting.specs.PrivateSearch.{poly_total}
 
 -- ---- where each member is an element
 module _ {A : Type 0} {o : Ops A} (L : RingLaws o) (a : A) where
@@ -39,6 +41,14 @@ module _ {A : Type 0} {o : Ops A} (L : RingLaws o) (a : A) where
     where
       turn : (x y z : A) → o.mul x (o.mul y z) ≡ o.mul y (o.mul z x)
       turn x y z = L.mul_comm x (o.mul y z) ∙ L.mul_assoc y z x
+
+-- a sum of many is valid
+pub total_valid : {A : Type 0} {c : Carrier A} (R : IsRing c) (n : ℕ) (f : ℕ → List A)
+    → ((k : ℕ) → k < n → All c.Valid (f k)) → All c.Valid (poly_total c.ops n f)
+total_valid {c = c} R zero f vf = All-nil c.Valid
+total_valid {c = c} R (suc n) f vf = trim_valid R (sum c.ops (poly_total c.ops n f) (f n))
+    (sum_valid R (poly_total c.ops n f) (f n) (total_valid R n f (λ k l. vf k (omega arith)))
+    (vf n (omega arith)))
 
 module _ {A : Type 0} {c : Carrier A} (P : IsPropositional c) (R : IsRing c) (v : A)
     (vv : c.Valid v) where
@@ -146,6 +156,18 @@ module _ {A : Type 0} {c : Carrier A} (P : IsPropositional c) (R : IsRing c) (v 
       ∙ ap (λ n. fold c.ops.zero c.ops.add n
       (λ j. c.ops.mul (slice_index_or (map (underlying c) F) j c.ops.zero) (power c.ops v j)))
       (sym (length-map F (underlying c))))
+
+  -- the value of a sum of many
+  pub value_of_total : (n : ℕ) (f : ℕ → List A) → ((k : ℕ) → k < n → All c.Valid (f k))
+      → (g : ℕ → Element c) → ((k : ℕ) → k < n → evaluate c.ops (f k) v ≡ (g k).0)
+      → evaluate c.ops (poly_total c.ops n f) v ≡ (total (element_ops R) n g).0
+  value_of_total zero f vf g e = refl
+  value_of_total (suc n) f vf g e =
+      value_of_sum (poly_total c.ops n f) (f n) (total_valid R n f (λ k l. vf k (omega arith)))
+      (vf n (omega arith))
+      ∙ ap₂ c.ops.add (value_of_total n f (λ k l. vf k (omega arith)) g (λ k l. e k (omega arith)))
+      (e n (omega arith))
+      ∙ ap (underlying c) (sym (total_last L n g))
 
   -- **a multiple of g is zero where g is**
   pub value_of_multiple : (g f : List A) → All c.Valid g → Divides c g f
