@@ -13,10 +13,12 @@ use Rattle.alg_model.specs.Roots.{IsRoot}
 use Rattle.alg_model.specs.Conjugates.{conjugates}
 use Rattle.alg_galois.proofs.Fields.{field_of}
 use Rattle.alg_galois.proofs.EmbeddingRoots.{root_exists, root_degree_divides, roots_are_powers, root_powers_agree, powers_are_roots}
+use Rattle.alg_splitting.specs.RootLists.{IsRootList}
 use Rattle.alg_splitting.specs.PrivateSearch.{Splits}
 use Rattle.alg_splitting.proofs.ValueLaws.{values_ring}
 use Rattle.alg_splitting.proofs.ConstantPolynomials.{constants_polynomial, length_constants}
 use Rattle.alg_splitting.proofs.SplitPolynomials.{split_divisor}
+use Rattle.alg_splitting.proofs.RootLists.{root_list_length}
 
 module _ (F : Field) (W : IsFiniteField F) (f : List ℕ)
     (monic : IsMonic (residues F.characteristic) f)
@@ -112,3 +114,19 @@ module _ (F : Field) (W : IsFiniteField F) (f : List ℕ)
       → IsPolynomial (field_values F) g → Divides (field_values F) g (constants F f)
       → Splits F g
   irreducible_divisor_splits d g vg k = split_divisor F W (constants F f) g (irreducible_splits d) vg k
+
+  -- **so it has as many roots as its degree**
+  pub irreducible_root_count : degree f ∣ degree_of F → (vs : List (List ℕ))
+      → IsRootList F (constants F f) vs → length vs ≡ degree f
+  irreducible_root_count d vs R = omega (
+    arith,
+    root_list_length F W (constants F f) vs (irreducible_splits d) R,
+    length_constants F W f,
+  )
+
+  -- **or none**
+  pub irreducible_root_list : ¬ (degree f ∣ degree_of F) → IsRootList F (constants F f) []
+  irreducible_root_list n = record {
+    rising = λ i j d l k. absurd (omega arith);
+    exactly = λ v. ((λ (k, l, _). absurd (omega arith)), (λ r. absurd (irreducible_no_root n v r)));
+  }

@@ -18,7 +18,7 @@ use Rattle.alg_rings.proofs.PolynomialOrder.{order_by_total, order_by_same, nat_
 use Rattle.alg_galois.proofs.FieldSizes.{all_values}
 use Rattle.alg_splitting.specs.RootLists.{IsRootList}
 use Rattle.alg_splitting.specs.PrivateSearch.{Splits}
-use Rattle.alg_splitting.proofs.SplitPolynomials.{split_count}
+use Rattle.alg_splitting.proofs.SplitPolynomials.{split_count, roots_bounded}
 
 -- ---- the order of values
 -- it is transitive
@@ -298,7 +298,13 @@ pub root_list_length : (F : Field) → IsFiniteField F → (g vs : List (List �
     → IsRootList F g vs → length vs ≡ degree g
 root_list_length F W g vs S R = split_count F W g S vs (rising_differ vs R.rising) R.exactly
 
--- **a polynomial that isn't zero has such a list**
+-- **it isn't longer than the degree**
+pub root_list_short : (F : Field) → IsFiniteField F → (g vs : List (List ℕ))
+    → IsPolynomial (field_values F) g → g ≢ [] → IsRootList F g vs → length vs < length g
+root_list_short F W g vs vg n R = roots_bounded F W g vg n vs (rising_differ vs R.rising)
+    (λ k d l. (R.exactly (slice_index_or vs k d)).0 (Contains-get_or vs k d l))
+
+-- **each polynomial has such a list**
 pub root_list_exists : (F : Field) → IsFiniteField F → (g : List (List ℕ))
     → (vs : List (List ℕ)) × IsRootList F g vs
 root_list_exists F W g = 
