@@ -1,6 +1,6 @@
 -- The roots of a monic irreducible polynomial f over the prime field: the conjugates of one.
-use Rattle.std.proofs.Common.{◌≡◌, ◌≢◌, ◌↔◌, ℕ, ◌%◌, ◌^◌, ◌<◌, List, [], ◌∷◌, length, map, slice_index_or, All, AllPairs, refl, ap, sym, ◌∙◌, subst, arith}
-use Rattle.std.specs.List.{Contains, range_with_len}
+use Rattle.std.proofs.Common.{◌≡◌, ◌≢◌, ◌↔◌, ℕ, ◌%◌, ◌^◌, ◌<◌, List, [], length, slice_index_or, AllPairs, refl, ap, sym, ◌∙◌, subst, arith}
+use Rattle.std.specs.List.{Contains}
 use Rattle.std.proofs.Math.Nat.{pow-zero, mod-eq_of_lt, mod_self, zero-mod}
 use Rattle.std.proofs.lemmas.List.FromFn.{length-map-range_with_len, get_or-map-range_with_len}
 use Rattle.std.proofs.lemmas.List.Elements.{All-from_get_or}
@@ -75,7 +75,7 @@ module _ (F : Field) (W : IsFiniteField F) (f : List ℕ)
     -- r comes back after as many powers p as the degree
     pub root_returns :
         power (field_values F).ops r (F.characteristic ^ degree f) ≡ r
-    root_returns = 
+    root_returns =
         (root_powers_agree E F V W refl r root (degree f) 0).1
         (mod_self (degree f) ∙ sym (zero-mod (degree f)))
         ∙ ap (power (field_values F).ops r) (pow-zero F.characteristic)

@@ -1,10 +1,10 @@
 -- Polynomials over the prime field as polynomials over a field F of its characteristic.
-use Rattle.std.proofs.Common.{◌≡◌, ◌≢◌, ℕ, ◌<◌, List, [], ◌∷◌, All, length, map, slice_index_or, refl, ap, ap₂, sym, ◌∙◌, subst, arith}
+use Rattle.std.proofs.Common.{◌≡◌, ℕ, ◌<◌, List, All, length, map, slice_index_or, refl, ap, ap₂, sym, ◌∙◌, subst, arith}
 use Rattle.std.proofs.lemmas.List.{length-map}
 use Rattle.alg_model.specs.Coefficients.{Ops, power, mod_ops, residues, IsPrime}
-use Rattle.alg_model.specs.Polynomials.{poly_sum, poly_difference, poly_product, poly_power, trim, leading, evaluate}
+use Rattle.alg_model.specs.Polynomials.{poly_sum, poly_product, poly_power, trim, leading, evaluate}
 use Rattle.alg_model.specs.Factors.{IsPolynomial, IsMonic, IsDivision, Divides}
-use Rattle.alg_model.specs.Maps.{Field, IsFiniteField, field_values, degree_of, generator, constant, constants}
+use Rattle.alg_model.specs.Maps.{Field, IsFiniteField, field_values, generator, constant, constants}
 use Rattle.alg_model.specs.Roots.{IsRoot}
 use Rattle.alg_rings.proofs.Elements.{Element, underlying, element_ops, underlying_homomorphism, elements, elements_are, on_valid, on_valid₂, underlying_valid}
 use Rattle.alg_rings.proofs.Homomorphisms.{Homomorphism, trim-map, poly_sum-map, poly_product-map, poly_power-map, leading-map, evaluate-map, power-map}

@@ -1,27 +1,25 @@
 -- Polynomials modulo g, the powers y^(p^i) modulo g, and what of g splits.
-use Rattle.std.proofs.Common.{◌≡◌, ◌≢◌, ◌↔◌, ℕ, zero, suc, ◌+◌, ◌-◌, ◌*◌, ◌^◌, ◌<◌, List, [], ◌∷◌, All, AllPairs, length, map, slice_index_or, refl, ap, ap₂, sym, ◌∙◌, subst, arith, pow-suc, mul-zero, mul-suc}
+use Rattle.std.proofs.Common.{◌≡◌, ◌≢◌, ◌↔◌, ℕ, zero, suc, ◌+◌, ◌*◌, ◌^◌, ◌<◌, List, [], ◌∷◌, All, AllPairs, length, map, slice_index_or, refl, ap, ap₂, sym, ◌∙◌, subst, arith, pow-suc, mul-zero, mul-suc}
 use Rattle.std.specs.List.{Contains}
 use Rattle.std.proofs.Math.Nat.{pow-zero, mul_comm}
 use Rattle.std.proofs.lemmas.List.{length-map}
 use Rattle.alg_model.specs.Coefficients.{Ops, power, times}
-use Rattle.alg_model.specs.Polynomials.{scale, trim, product, poly_sum, poly_difference, poly_product, poly_power, evaluate}
+use Rattle.alg_model.specs.Polynomials.{scale, trim, poly_sum, poly_difference, poly_product, poly_power, evaluate}
 use Rattle.alg_model.specs.Factors.{IsPolynomial, IsDivision, IsGreatestCommonDivisor, Divides}
-use Rattle.alg_model.specs.Values.{degree}
 use Rattle.alg_model.specs.Maps.{Field, IsFiniteField, field_values, degree_of}
 use Rattle.alg_model.specs.Roots.{IsRoot}
 use Rattle.alg_rings.specs.Laws.{RingLaws}
 use Rattle.alg_rings.proofs.Rings
 use Rattle.alg_rings.proofs.Powers
 use Rattle.alg_rings.proofs.Lists
-use Rattle.alg_rings.proofs.Divisibility
 use Rattle.alg_rings.proofs.Modulo
 use Rattle.alg_rings.proofs.Modulo.{Same}
-use Rattle.alg_rings.proofs.Folds.{fold-map, Keeps, fold_same}
+use Rattle.alg_rings.proofs.Folds.{fold-map, Keeps}
 use Rattle.alg_rings.proofs.Elements.{Element, underlying, element_ops, element_laws, underlying_injective, underlying_homomorphism, elements, elements_are}
 use Rattle.alg_rings.proofs.Homomorphisms.{power-map, place-map}
 use Rattle.alg_rings.proofs.Divisors.{Polynomial, polynomial_ops, polynomial_laws, same_polynomial, power_is, length_poly_product}
 use Rattle.alg_rings.proofs.CarrierPolynomials.{nil_polynomial, poly_sum_polynomial, poly_difference_polynomial, poly_product_polynomial, poly_power_polynomial, trim_product_first, trim_polynomial}
-use Rattle.alg_rings.proofs.Validity.{value_at_valid, power_valid, scale_valid, place_valid}
+use Rattle.alg_rings.proofs.Validity.{value_at_valid, scale_valid}
 use Rattle.alg_rings.proofs.Trims.{length_poly_difference}
 use Rattle.alg_divisors.proofs.EuclideanPolynomials.{one_is}
 use Rattle.alg_divisors.proofs.PolynomialFactors.{divides_to, divides_from}
@@ -31,7 +29,7 @@ use Rattle.alg_fields.proofs.Generator.{generator, polynomial_is_value}
 use Rattle.alg_fields.proofs.Derivations.{polynomial_characteristic}
 use Rattle.alg_linear.specs.PrivateGrids.{total}
 use Rattle.alg_linear.proofs.Sums.{total_last, total_same}
-use Rattle.alg_finite.proofs.FiniteField.{FiniteField, above_one, pow_one}
+use Rattle.alg_finite.proofs.FiniteField.{above_one, pow_one}
 use Rattle.alg_galois.proofs.Fields.{modulus_of, finite}
 use Rattle.alg_galois.proofs.FieldSizes.{all_values, power_of_size}
 use Rattle.alg_splitting.specs.PrivateSearch.{Splits, variable, poly_total, AreCongruent, IsFrobeniusModulo, IsFrobeniusAtRoots}
@@ -341,7 +339,7 @@ module _ (F : Field) (W : IsFiniteField F) where
         → IsPolynomial (field_values F) b → AreCongruent F g a b → (n : ℕ)
         → AreCongruent F g (poly_power (field_values F).ops a n)
         (poly_power (field_values F).ops b n)
-    congruent_power a b va vb s n = 
+    congruent_power a b va vb s n =
         subst (λ w. AreCongruent F g w (poly_power (field_values F).ops b n))
         (power_is (values_set F) (values_ring F W) (a, va) n)
         (subst (AreCongruent F g (power Q (a, va) n).0)
@@ -364,7 +362,7 @@ module _ (F : Field) (W : IsFiniteField F) where
 
     -- ---- the powers y^(p^i)
     pub frobenius_start : IsFrobeniusModulo F g 0 (variable F)
-    frobenius_start = 
+    frobenius_start =
         subst (λ m. AreCongruent F g (variable F) (poly_power (field_values F).ops (variable F) m))
         (sym (pow-zero F.characteristic))
         (from_power G y 1 (Modulo.same_from_equal L (sym (Powers.power_one L y))))
@@ -374,7 +372,7 @@ module _ (F : Field) (W : IsFiniteField F) where
         → IsFrobeniusModulo F g i a
         → IsDivision (field_values F) (poly_power (field_values F).ops a F.characteristic) g q r
         → IsFrobeniusModulo F g (suc i) r
-    frobenius_next i a q r va s D = 
+    frobenius_next i a q r va s D =
         from_power G (r, D.remainder) (F.characteristic ^ suc i)
         (Modulo.same_trans L
         (by_division (poly_power (field_values F).ops a F.characteristic) q r
@@ -397,7 +395,7 @@ module _ (F : Field) (W : IsFiniteField F) where
     -- ---- by a table of the powers of w = y^p
     pub table_start : AreCongruent F g ((field_values F).ops.one ∷ [])
         (poly_power (field_values F).ops (variable F) (F.characteristic * 0))
-    table_start = 
+    table_start =
         subst (λ m. AreCongruent F g ((field_values F).ops.one ∷ [])
         (poly_power (field_values F).ops (variable F) m))
         (sym (mul-zero F.characteristic))
@@ -414,7 +412,7 @@ module _ (F : Field) (W : IsFiniteField F) where
         → IsDivision (field_values F) (poly_product (field_values F).ops t w) g q r
         → AreCongruent F g r
         (poly_power (field_values F).ops (variable F) (F.characteristic * suc j))
-    table_next j t w q r vt vw s f D = 
+    table_next j t w q r vt vw s f D =
         let sum_is : F.characteristic * j + F.characteristic ^ 1 ≡ F.characteristic * suc j =
         omega (arith, pow_one F.characteristic, mul-suc F.characteristic j) in
         from_power G (r, D.remainder) (F.characteristic * suc j)
@@ -531,8 +529,7 @@ module _ (F : Field) (W : IsFiniteField F) where
         divisor_root F W h g D.polynomial.0 D.divides_first v,
         (λ r. (gcd_root F W g (poly_difference (field_values F).ops a (variable F)) h vg
             (poly_difference_polynomial (values_set F) (values_ring F W) a (variable F) va
-            variable_polynomial) D v).1
-            (
+            variable_polynomial) D v).1 (
               r,
               (
                 r.0,

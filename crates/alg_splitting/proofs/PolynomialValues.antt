@@ -8,7 +8,6 @@ use Rattle.alg_model.specs.Factors.{IsDivision, Divides}
 use Rattle.alg_model.specs.Fields.{IsRing}
 use Rattle.alg_rings.specs.Laws.{IsPropositional, RingLaws}
 use Rattle.alg_rings.proofs.Rings
-use Rattle.alg_rings.proofs.Powers
 use Rattle.alg_rings.proofs.Folds.{fold, fold_same, fold-map, sums_kept}
 use Rattle.alg_rings.proofs.Elements.{Element, element_ops, underlying, on_valid, on_valid₂, on_elements}
 use Rattle.alg_rings.proofs.Homomorphisms.{evaluate-map, trim-map, sum-map, scale-map, negatives-map, product-map, poly_power-map, power-map, place-map}

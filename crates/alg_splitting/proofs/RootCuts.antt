@@ -1,20 +1,19 @@
 -- The roots of h at which a polynomial t has a given constant as its value: those of a greatest
 -- common divisor.
-use Rattle.std.proofs.Common.{◌≡◌, ◌≢◌, ◌↔◌, ℕ, ◌<◌, List, [], ◌∷◌, length, All, AllPairs, ap, ap₂, sym, ◌∙◌, subst, arith}
+use Rattle.std.proofs.Common.{◌≡◌, ◌≢◌, ◌↔◌, ℕ, ◌<◌, List, [], ◌∷◌, length, All, ap, sym, ◌∙◌, arith}
 use Rattle.std.proofs.lemmas.List.Elements.{All-cons, All-nil}
 use Rattle.alg_model.specs.Polynomials.{evaluate, trim, poly_product}
 use Rattle.alg_model.specs.Factors.{IsPolynomial, IsGreatestCommonDivisor}
 use Rattle.alg_model.specs.Maps.{Field, IsFiniteField, field_values, constant}
 use Rattle.alg_model.specs.Roots.{IsRoot}
 use Rattle.alg_fields.specs.Fixed.{less_constant}
-use Rattle.alg_rings.specs.Laws.{RingLaws}
 use Rattle.alg_rings.proofs.Rings
-use Rattle.alg_rings.proofs.Elements.{Element, element_ops, element_laws, underlying_injective}
+use Rattle.alg_rings.proofs.Elements.{element_laws, underlying_injective}
 use Rattle.alg_rings.proofs.Lists
 use Rattle.alg_rings.proofs.Validity.{value_at_valid}
 use Rattle.alg_rings.proofs.CarrierPolynomials.{trim_polynomial, poly_difference_polynomial}
 use Rattle.alg_splitting.specs.PrivateSearch.{Splits, IsConstantAtRoots}
-use Rattle.alg_splitting.proofs.ValueLaws.{values_set, values_ring, values_field}
+use Rattle.alg_splitting.proofs.ValueLaws.{values_set, values_ring}
 use Rattle.alg_splitting.proofs.PolynomialValues.{value_of_difference, value_of_trim, value_of_constant}
 use Rattle.alg_splitting.proofs.ConstantPolynomials.{constant_valid}
 use Rattle.alg_splitting.proofs.SplitPolynomials.{roots_bounded, split_root}
@@ -37,7 +36,7 @@ module _ (F : Field) (W : IsFiniteField F) (h t : List (List ℕ))
 
   pub less_constant_polynomial : (c : ℕ) → c < F.characteristic
       → IsPolynomial (field_values F) (less_constant (field_values F).ops t (constant F c))
-  less_constant_polynomial c l = 
+  less_constant_polynomial c l =
       poly_difference_polynomial (values_set F) (values_ring F W) t
       (trim (field_values F).ops (constant F c ∷ [])) vt
       (trim_polynomial (values_set F) (values_ring F W) (constant F c ∷ []) (alone c l))
@@ -81,7 +80,7 @@ module _ (F : Field) (W : IsFiniteField F) (h t : List (List ℕ))
       → IsGreatestCommonDivisor (field_values F) h
       (less_constant (field_values F).ops t (constant F c)) g → (v : List ℕ)
       → IsRoot F g v ↔ (IsRoot F h v × (evaluate (field_values F).ops t v ≡ constant F c))
-  cut_root c l g G v = 
+  cut_root c l g G v =
       let both = gcd_root F W h (less_constant (field_values F).ops t (constant F c)) g vh
       (less_constant_polynomial c l) G v in (
         (λ r. let s = both.0 r in (s.0, (less_constant_root c l v r.0).0 s.1)),
@@ -93,7 +92,7 @@ module _ (F : Field) (W : IsFiniteField F) (h t : List (List ℕ))
       → IsGreatestCommonDivisor (field_values F) h
       (less_constant (field_values F).ops t (constant F c)) g → (v : List ℕ)
       → IsRoot F h v → evaluate (field_values F).ops t v ≡ constant F c → 1 < length g
-  cut_not_constant c l g n G v r e = 
+  cut_not_constant c l g n G v r e =
       root_not_constant F W g G.polynomial
       (λ z. n (sym G.divides_first.2
       ∙ ap (poly_product (field_values F).ops G.divides_first.0) z
@@ -106,7 +105,7 @@ module _ (F : Field) (W : IsFiniteField F) (h t : List (List ℕ))
       → (c : ℕ) × (c < F.characteristic) × ((g : List (List ℕ))
       → IsGreatestCommonDivisor (field_values F) h
       (less_constant (field_values F).ops t (constant F c)) g → 1 < length g)
-  cut_exists S l k = 
+  cut_exists S l k =
       let (v, r) = split_root F W h S l in
       let (c, m, e) = k v r in
       (c, m, λ g G. cut_not_constant c m g S.not_zero G v r (sym e))

@@ -1,5 +1,5 @@
 -- The roots as a list, least first.
-use Rattle.std.proofs.Common.{◌≡◌, ◌≢◌, ◌⊎◌, inl, inr, ⊎_elim, ◌↔◌, ℕ, zero, suc, ◌+◌, ◌-◌, ◌<◌, ◌≤◌, List, [], ◌∷◌, length, slice_index_or, All, AllPairs, Ordering, Less, Equal, Greater, nat_cmp, refl, ap, ap₂, sym, ◌∙◌, subst, arith}
+use Rattle.std.proofs.Common.{◌≡◌, ◌≢◌, ◌⊎◌, inl, inr, ⊎_elim, ◌↔◌, ℕ, zero, suc, ◌+◌, ◌-◌, ◌<◌, ◌≤◌, List, [], ◌∷◌, length, slice_index_or, AllPairs, Ordering, Less, Equal, Greater, nat_cmp, refl, ap, ap₂, sym, ◌∙◌, subst, arith}
 use Rattle.std.specs.List.{Contains, insert}
 use Rattle.std.specs.Ordering.{ordering_reverse}
 use Rattle.std.proofs.lemmas.Bool.{cases_eq, cases_lt}
@@ -27,7 +27,7 @@ before_through a b d s t = (order_by_total nat_cmp_total).trans a b d s t
 
 -- nothing comes before itself
 pub not_before_itself : (a : List ℕ) → ¬ IsBefore a a
-not_before_itself a s = 
+not_before_itself a s =
     let e : Less ≡ Greater =
     sym s ∙ (order_by_total nat_cmp_total).antisymm a a ∙ ap ordering_reverse s in cc
 
@@ -146,23 +146,32 @@ pub insert_contains : (vs : List (List ℕ)) (i : ℕ) (v : List ℕ) → i ≤ 
     → Contains (insert vs i v) w ↔ ((w ≡ v) ⊎ Contains vs w)
 insert_contains vs i v l w = (
   (λ (k, m, e). ⊎_elim
-      (λ h. inr (k, omega (arith, length-insert vs i v l),
-      sym (get_or-insert_below vs i v w k h l) ∙ e))
+      (λ h. inr (
+        k,
+        omega (arith, length-insert vs i v l),
+        sym (get_or-insert_below vs i v w k h l) ∙ e,
+      ))
       (λ h. ⊎_elim
       (λ s. inl (sym e ∙ ap (λ j. slice_index_or (insert vs i v) j w) s
       ∙ get_or-insert_at vs i v w l))
       (λ s. let back : k ≡ k - 1 + 1 = omega arith in
-      inr (k - 1, omega (arith, length-insert vs i v l),
-      sym (get_or-insert_above vs i v w (k - 1) (omega arith) l)
-      ∙ ap (λ j. slice_index_or (insert vs i v) j w) (sym back) ∙ e))
+      inr (
+        k - 1,
+        omega (arith, length-insert vs i v l),
+        sym (get_or-insert_above vs i v w (k - 1) (omega arith) l)
+            ∙ ap (λ j. slice_index_or (insert vs i v) j w) (sym back) ∙ e,
+      ))
       (cases_eq k i))
       (cases_lt k i)),
   (λ c. ⊎_elim
       (λ s. (i, omega (arith, length-insert vs i v l), get_or-insert_at vs i v w l ∙ sym s))
       (λ (k, m, e). ⊎_elim
       (λ h. (k, omega (arith, length-insert vs i v l), get_or-insert_below vs i v w k h l ∙ e))
-      (λ h. (k + 1, omega (arith, length-insert vs i v l),
-      get_or-insert_above vs i v w k (omega arith) l ∙ e))
+      (λ h. (
+        k + 1,
+        omega (arith, length-insert vs i v l),
+        get_or-insert_above vs i v w k (omega arith) l ∙ e,
+      ))
       (cases_lt k i)) c),
 )
 
@@ -238,8 +247,10 @@ rising_of T told (x ∷ xs) =
       us,
       s,
       (λ w. (
-        (λ c. ⊎_elim (λ p. (subst (Contains (x ∷ xs)) (sym p) (contains_first x xs),
-            subst T (sym p) t))
+        (λ c. ⊎_elim (λ p. (
+          subst (Contains (x ∷ xs)) (sym p) (contains_first x xs),
+          subst T (sym p) t,
+        ))
             (λ d. let g = (e w).0 d in (contains_more x xs w g.0, g.1)) ((f w).0 c)),
         (λ (c, u). (f w).1 (⊎_elim (λ p. inl (sym p)) (λ d. inr ((e w).1 (d, u)))
             (first_or_rest x xs w c))),
@@ -307,7 +318,7 @@ root_list_short F W g vs vg n R = roots_bounded F W g vg n vs (rising_differ vs 
 -- **each polynomial has such a list**
 pub root_list_exists : (F : Field) → IsFiniteField F → (g : List (List ℕ))
     → (vs : List (List ℕ)) × IsRootList F g vs
-root_list_exists F W g = 
+root_list_exists F W g =
     let (xs, _, valid, _, all) = all_values F W in
     let (ws, r, e) = rising_of
     (λ v. evaluate (field_values F).ops g v ≡ (field_values F).ops.zero)

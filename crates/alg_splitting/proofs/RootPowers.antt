@@ -1,11 +1,11 @@
 -- Polynomials whose values at the roots of g are the powers v^(p^i).
-use Rattle.std.proofs.Common.{◌≡◌, ℕ, zero, suc, ◌*◌, ◌^◌, ◌<◌, List, [], ◌∷◌, All, length, slice_index_or, ap, ap₂, sym, ◌∙◌, pow-suc}
+use Rattle.std.proofs.Common.{◌≡◌, ℕ, suc, ◌*◌, ◌^◌, ◌<◌, List, All, length, slice_index_or, ap, ap₂, sym, ◌∙◌}
 use Rattle.std.proofs.Math.Nat.{pow-zero, mul_comm}
 use Rattle.std.proofs.lemmas.List.{length-map}
 use Rattle.alg_model.specs.Coefficients.{Ops, power, times}
 use Rattle.alg_model.specs.Polynomials.{scale, trim, poly_power, evaluate}
 use Rattle.alg_model.specs.Factors.{IsPolynomial, IsDivision, Divides}
-use Rattle.alg_model.specs.Maps.{Field, IsFiniteField, field_values, degree_of, generator, constants}
+use Rattle.alg_model.specs.Maps.{Field, IsFiniteField, field_values, generator, constants}
 use Rattle.alg_model.specs.Roots.{IsRoot}
 use Rattle.alg_rings.specs.Laws.{RingLaws}
 use Rattle.alg_rings.proofs.Powers
@@ -15,12 +15,12 @@ use Rattle.alg_rings.proofs.Homomorphisms.{Homomorphism, power-map, place-map, e
 use Rattle.alg_rings.proofs.Validity.{power_valid, place_valid, scale_valid, trim_valid}
 use Rattle.alg_linear.specs.PrivateGrids.{total}
 use Rattle.alg_linear.proofs.Sums.{total_same}
-use Rattle.alg_finite.proofs.FiniteField.{FiniteField, frobenius, frobenius_last, frobenius_homomorphism}
+use Rattle.alg_finite.proofs.FiniteField.{frobenius_last}
 use Rattle.alg_fields.proofs.Frobenius
 use Rattle.alg_galois.proofs.Fields.{modulus_of, finite}
 use Rattle.alg_galois.proofs.Embeddings.{generator_is_value}
 use Rattle.alg_splitting.specs.PrivateSearch.{variable, poly_total, IsFrobeniusAtRoots}
-use Rattle.alg_splitting.proofs.ValueLaws.{values_set, values_ring, values_field}
+use Rattle.alg_splitting.proofs.ValueLaws.{values_set, values_ring}
 use Rattle.alg_splitting.proofs.PolynomialValues.{value_of_variable, value_of_power, value_of_remainder, value_of_trim, value_of_scale, value_of_total, value_by_places_of}
 use Rattle.alg_splitting.proofs.ConstantPolynomials.{value_of_field_power, value_of_field_generator}
 use Rattle.alg_splitting.proofs.RootDivisors.{divisor_root}

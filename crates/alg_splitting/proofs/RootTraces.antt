@@ -1,20 +1,19 @@
 -- Polynomials whose values at the roots of g are traces.
 --     relative_trace F d c     c + c^q + .., n / d of them, for q = p^d
-use Rattle.std.proofs.Common.{◌≡◌, ℕ, zero, suc, ◌+◌, ◌*◌, ◌/◌, ◌^◌, ◌<◌, List, [], ◌∷◌, length, map, All, refl, ap, ap₂, sym, ◌∙◌, subst, arith}
+use Rattle.std.proofs.Common.{◌≡◌, ℕ, zero, suc, ◌+◌, ◌*◌, ◌/◌, ◌^◌, ◌<◌, List, [], map, All, refl, ap, ap₂, sym, ◌∙◌, subst, arith}
 use Rattle.std.specs.List.{range_with_len}
 use Rattle.std.proofs.Math.Nat.{div-add-mod}
 use Rattle.std.proofs.lemmas.Nat.Gcd.{mod-eq-zero_of_dvd}
 use Prim.Native.Nat.{◌∣◌}
-use Rattle.alg_model.specs.Coefficients.{Ops, power, residues}
+use Rattle.alg_model.specs.Coefficients.{Ops, power}
 use Rattle.alg_model.specs.Polynomials.{scale, trim, evaluate}
 use Rattle.alg_model.specs.Factors.{IsPolynomial, IsDivision, Divides}
-use Rattle.alg_model.specs.Maps.{Field, IsFiniteField, field_values, degree_of, constant}
+use Rattle.alg_model.specs.Maps.{Field, IsFiniteField, field_values, degree_of}
 use Rattle.alg_model.specs.Roots.{IsRoot}
 use Rattle.alg_model.specs.Conjugates.{conjugates, sum_all, trace}
 use Rattle.alg_rings.specs.Laws.{FieldLaws}
-use Rattle.alg_rings.proofs.Folds.{fold, fold_last, fold_same, fold-map, sums, sums_kept}
+use Rattle.alg_rings.proofs.Folds.{fold_last, fold_same, fold-map, sums, sums_kept}
 use Rattle.alg_rings.proofs.Elements.{Element, underlying_homomorphism, underlying_injective}
-use Rattle.alg_rings.proofs.Homomorphisms.{Homomorphism}
 use Rattle.alg_rings.proofs.Validity.{power_valid, scale_valid, trim_valid}
 use Rattle.alg_fields.proofs.OnCarriers.{power_of_product}
 use Rattle.alg_finite.proofs.FiniteField.{FiniteField, frobenius, frobenius_add, frobenius_of_power, frobenius_multiple, frobenius_homomorphism}
@@ -76,7 +75,7 @@ module _ (F : Field) (W : IsFiniteField F) where
       → (field_values F).Valid v → power (field_values F).ops v (F.characteristic ^ d) ≡ v
       → conjugate_sum F d ((field_values F).ops.mul (relative_trace F d c) v)
       ≡ trace F ((field_values F).ops.mul c v)
-  trace_by_relative d k c v vc vv back = 
+  trace_by_relative d k c v vc vv back =
       ap (conjugate_sum F d) (ap (λ w. w.0)
       (ap (λ t. O.mul t V) (sym relative_is) ∙ L.ring.mul_comm relative V
       ∙ sym (trace_of_multiple L q (powers_keep K d) e V C fixed)))
@@ -124,7 +123,7 @@ module _ (F : Field) (W : IsFiniteField F) where
       ≡ sum_all (field_values F).ops
       (map (λ i. power (field_values F).ops c (F.characteristic ^ (j + d * i)))
       (range_with_len 0 (degree_of F / d)))
-  power_of_relative d j c vc = 
+  power_of_relative d j c vc =
       ap (λ w. power (field_values F).ops w (F.characteristic ^ j)) (sym (sum_is q e (c, vc)))
       ∙ sym (power_value F.characteristic W.characteristic F.polynomial N (trace_of O q e (c, vc))
       (F.characteristic ^ j))

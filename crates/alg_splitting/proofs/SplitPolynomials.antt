@@ -1,10 +1,10 @@
 -- Polynomials with as many roots in a finite field as their degree.
-use Rattle.std.proofs.Common.{◌≡◌, ◌≢◌, ◌↔◌, ◌⊎◌, inl, inr, ⊎_elim, ℕ, suc, ◌-◌, ◌<◌, ◌≤◌, List, [], ◌∷◌, length, slice_index_or, AllPairs, All, Bool, true, false, refl, ap, ap₂, sym, ◌∙◌, subst, arith}
+use Rattle.std.proofs.Common.{◌≡◌, ◌≢◌, ◌↔◌, ◌⊎◌, inl, inr, ⊎_elim, ℕ, ◌<◌, List, [], ◌∷◌, length, slice_index_or, AllPairs, All, Bool, true, false, refl, ap, sym, ◌∙◌, subst, arith}
 use Rattle.std.specs.List.{Contains, filter}
 use Rattle.std.specs.Prelude.{not}
 use Rattle.std.proofs.lemmas.Bool.{cases_eq}
 use Rattle.std.proofs.lemmas.List.{get_or_default}
-use Rattle.std.proofs.lemmas.List.Elements.{All-head, All-tail, All-cons, All-nil, All-filter, filter_passes, All-contains, Contains-get_or}
+use Rattle.std.proofs.lemmas.List.Elements.{All-head, All-cons, All-nil, All-filter, filter_passes, All-contains}
 use Rattle.std.proofs.lemmas.List.Kept.{AllPairs-cons, AllPairs-filter}
 use Rattle.alg_model.specs.Coefficients.{Ops}
 use Rattle.alg_model.specs.Polynomials.{evaluate, poly_product, trim}
@@ -18,7 +18,7 @@ use Rattle.alg_rings.proofs.Lists
 use Rattle.alg_rings.proofs.Decisions.{Least, search_below, lists_equal_or_not}
 use Rattle.alg_rings.proofs.Division.{zero_from_product}
 use Rattle.alg_rings.proofs.Divisors.{length_poly_product}
-use Rattle.alg_rings.proofs.Elements.{Element, element_ops, element_laws, element_field, underlying_injective}
+use Rattle.alg_rings.proofs.Elements.{Element, element_ops, element_field, underlying_injective}
 use Rattle.alg_rings.proofs.Evaluation
 use Rattle.alg_rings.proofs.CarrierPolynomials.{trimmed_from_leading}
 use Rattle.alg_rings.proofs.Validity.{value_at_valid}
