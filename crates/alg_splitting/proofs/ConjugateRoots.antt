@@ -113,7 +113,8 @@ module _ (F : Field) (W : IsFiniteField F) (f : List ℕ)
   pub irreducible_divisor_splits : degree f ∣ degree_of F → (g : List (List ℕ))
       → IsPolynomial (field_values F) g → Divides (field_values F) g (constants F f)
       → Splits F g
-  irreducible_divisor_splits d g vg k = split_divisor F W (constants F f) g (irreducible_splits d) vg k
+  irreducible_divisor_splits d g vg k =
+      split_divisor F W (constants F f) g (irreducible_splits d) vg k
 
   -- **so it has as many roots as its degree**
   pub irreducible_root_count : degree f ∣ degree_of F → (vs : List (List ℕ))

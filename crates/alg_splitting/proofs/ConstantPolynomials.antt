@@ -113,6 +113,7 @@ module _ (F : Field) (W : IsFiniteField F) where
       → constant F a ≡ constant F b → a ≡ b
   constant_injective a b la lb e = ap (λ w. slice_index_or w 0 0) e
 
+  -- and a list of residues one of values
   pub constants_valid : (f : List ℕ) → All (residues F.characteristic).Valid f
       → All (field_values F).Valid (constants F f)
   constants_valid f vf = on_valid (residues F.characteristic)
@@ -157,7 +158,7 @@ module _ (F : Field) (W : IsFiniteField F) where
       ∙ ap (constant F) (leading-map below G ∙ m)
       ∙ value_homomorphism.one) f vf m
 
-  -- sums, products and powers are kept
+  -- sums are kept
   pub constants_sum : (f g : List ℕ) → All (residues F.characteristic).Valid f
       → All (residues F.characteristic).Valid g
       → constants F (poly_sum (mod_ops F.characteristic) f g)
@@ -170,6 +171,7 @@ module _ (F : Field) (W : IsFiniteField F) where
       ∙ ap₂ (poly_sum (field_values F).ops) (sym (of_elements G)) (sym (of_elements K)))
       f g vf vg
 
+  -- products
   pub constants_product : (f g : List ℕ) → All (residues F.characteristic).Valid f
       → All (residues F.characteristic).Valid g
       → constants F (poly_product (mod_ops F.characteristic) f g)
@@ -182,6 +184,7 @@ module _ (F : Field) (W : IsFiniteField F) where
       ∙ ap₂ (poly_product (field_values F).ops) (sym (of_elements G)) (sym (of_elements K)))
       f g vf vg
 
+  -- and powers
   pub constants_power : (f : List ℕ) → All (residues F.characteristic).Valid f → (n : ℕ)
       → constants F (poly_power (mod_ops F.characteristic) f n)
       ≡ poly_power (field_values F).ops (constants F f) n
@@ -192,7 +195,7 @@ module _ (F : Field) (W : IsFiniteField F) where
       ∙ poly_power-map value_homomorphism G n
       ∙ ap (λ w. poly_power (field_values F).ops w n) (sym (of_elements G))) f vf
 
-  -- **and so are divisions**
+  -- **divisions**
   pub constants_division : (f d q r : List ℕ) → IsPolynomial (residues F.characteristic) d
       → IsDivision (residues F.characteristic) f d q r
       → IsDivision (field_values F) (constants F f) (constants F d) (constants F q) (constants F r)

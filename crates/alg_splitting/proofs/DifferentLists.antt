@@ -20,6 +20,7 @@ pub first_differs : {X : Type 0} (x : X) (xs : List X) → AllPairs (λ a b. a �
     → All (λ y. x ≢ y) xs
 first_differs x xs d k e l = d 0 (suc k) e (omega arith) (omega arith)
 
+-- and the rest are different
 pub rest_differs : {X : Type 0} (x : X) (xs : List X) → AllPairs (λ a b. a ≢ b) (x ∷ xs)
     → AllPairs (λ a b. a ≢ b) xs
 rest_differs x xs d i j e l k = d (suc i) (suc j) e (omega arith) (omega arith)

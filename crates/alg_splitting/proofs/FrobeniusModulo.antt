@@ -47,7 +47,8 @@ module _ (F : Field) (W : IsFiniteField F) where
 
   -- the polynomial y
   pub variable_polynomial : IsPolynomial (field_values F) (variable F)
-  variable_polynomial = (linear_splits F W (field_values F).ops.zero (values_ring F W).zero_valid).polynomial
+  variable_polynomial =
+      (linear_splits F W (field_values F).ops.zero (values_ring F W).zero_valid).polynomial
 
   abbrev y : Polynomial (field_values F)
   y = (variable F, variable_polynomial)
@@ -203,7 +204,8 @@ module _ (F : Field) (W : IsFiniteField F) where
   -- **each value is a root of y^(p^n) - y**
   pub all_values_are_roots : (v : List ℕ) → (field_values F).Valid v
       → IsRoot F (poly_difference (field_values F).ops
-      (poly_power (field_values F).ops (variable F) (F.characteristic ^ degree_of F)) (variable F)) v
+      (poly_power (field_values F).ops (variable F) (F.characteristic ^ degree_of F))
+      (variable F)) v
   all_values_are_roots v vv = (
     vv,
     value_of_difference (values_set F) (values_ring F W) v vv
@@ -275,15 +277,18 @@ module _ (F : Field) (W : IsFiniteField F) where
     abbrev G : Polynomial (field_values F)
     G = (g, vg)
 
+    -- congruence is reflexive,
     pub congruent_itself : (a : List (List ℕ)) → IsPolynomial (field_values F) a
         → AreCongruent F g a a
     congruent_itself a va = from_same G (a, va) (a, va) (Modulo.same_itself L G (a, va))
 
+    -- symmetric
     pub congruent_back : (a b : List (List ℕ)) → IsPolynomial (field_values F) a
         → IsPolynomial (field_values F) b → AreCongruent F g a b → AreCongruent F g b a
     congruent_back a b va vb s = from_same G (b, vb) (a, va)
         (Modulo.same_back L (to_same G (a, va) (b, vb) s))
 
+    -- and transitive
     pub congruent_through : (a b d : List (List ℕ)) → IsPolynomial (field_values F) a
         → IsPolynomial (field_values F) b → IsPolynomial (field_values F) d
         → AreCongruent F g a b → AreCongruent F g b d → AreCongruent F g a d
@@ -303,6 +308,7 @@ module _ (F : Field) (W : IsFiniteField F) where
         → IsDivision (field_values F) a g q r → AreCongruent F g r a
     congruent_remainder a q r va D = from_same G (r, D.remainder) (a, va) (by_division a q r va D)
 
+    -- products of congruent polynomials are congruent
     pub congruent_product : (a b d e : List (List ℕ)) → IsPolynomial (field_values F) a
         → IsPolynomial (field_values F) b → IsPolynomial (field_values F) d
         → IsPolynomial (field_values F) e → AreCongruent F g a b → AreCongruent F g d e
@@ -312,6 +318,7 @@ module _ (F : Field) (W : IsFiniteField F) where
         (Q.mul (b, vb) (e, ve))
         (Modulo.same_product L (to_same G (a, va) (b, vb) s) (to_same G (d, vd) (e, ve) t))
 
+    -- so are sums
     pub congruent_sum : (a b d e : List (List ℕ)) → IsPolynomial (field_values F) a
         → IsPolynomial (field_values F) b → IsPolynomial (field_values F) d
         → IsPolynomial (field_values F) e → AreCongruent F g a b → AreCongruent F g d e
@@ -325,7 +332,8 @@ module _ (F : Field) (W : IsFiniteField F) where
         → ((k : ℕ) → k < n → IsPolynomial (field_values F) (s k))
         → ((k : ℕ) → k < n → IsPolynomial (field_values F) (t k))
         → ((k : ℕ) → k < n → AreCongruent F g (s k) (t k))
-        → AreCongruent F g (poly_total (field_values F).ops n s) (poly_total (field_values F).ops n t)
+        → AreCongruent F g (poly_total (field_values F).ops n s)
+        (poly_total (field_values F).ops n t)
     congruent_total zero s t vs vt c =
         congruent_itself [] (nil_polynomial (values_set F) (values_ring F W))
     congruent_total (suc n) s t vs vt c =
@@ -335,6 +343,7 @@ module _ (F : Field) (W : IsFiniteField F) where
         (congruent_total n s t (λ k l. vs k (omega arith)) (λ k l. vt k (omega arith))
         (λ k l. c k (omega arith))) (c n (omega arith))
 
+    -- and powers
     pub congruent_power : (a b : List (List ℕ)) → IsPolynomial (field_values F) a
         → IsPolynomial (field_values F) b → AreCongruent F g a b → (n : ℕ)
         → AreCongruent F g (poly_power (field_values F).ops a n)
@@ -361,6 +370,7 @@ module _ (F : Field) (W : IsFiniteField F) where
         (poly_difference (field_values F).ops a b) vg.0 s r.1)))
 
     -- ---- the powers y^(p^i)
+    -- y is the first
     pub frobenius_start : IsFrobeniusModulo F g 0 (variable F)
     frobenius_start =
         subst (λ m. AreCongruent F g (variable F) (poly_power (field_values F).ops (variable F) m))
@@ -393,6 +403,7 @@ module _ (F : Field) (W : IsFiniteField F) where
         (Modulo.same_trans L (by_division a q r va D) (to_power G (a, va) (F.characteristic ^ i) s))
 
     -- ---- by a table of the powers of w = y^p
+    -- one is the first
     pub table_start : AreCongruent F g ((field_values F).ops.one ∷ [])
         (poly_power (field_values F).ops (variable F) (F.characteristic * 0))
     table_start =
@@ -405,6 +416,7 @@ module _ (F : Field) (W : IsFiniteField F) where
         (congruent_itself (trim (field_values F).ops ((field_values F).ops.one ∷ []))
         (power_polynomial 0)))
 
+    -- **the remainder of one times w is the next one**
     pub table_next : (j : ℕ) (t w q r : List (List ℕ)) → IsPolynomial (field_values F) t
         → IsPolynomial (field_values F) w
         → AreCongruent F g t (poly_power (field_values F).ops (variable F) (F.characteristic * j))

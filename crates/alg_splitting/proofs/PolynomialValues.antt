@@ -77,8 +77,10 @@ module _ {A : Type 0} {c : Carrier A} (P : IsPropositional c) (R : IsRing c) (v 
   value_of_raw_sum : (f g : List A) → All c.Valid f → All c.Valid g
       → evaluate c.ops (sum c.ops f g) v ≡ c.ops.add (evaluate c.ops f v) (evaluate c.ops g v)
   value_of_raw_sum = on_valid₂ c
-      (λ f g. evaluate c.ops (sum c.ops f g) v ≡ c.ops.add (evaluate c.ops f v) (evaluate c.ops g v))
-      (λ F G. ap (λ w. evaluate c.ops w v) (sym (sum-map H F G)) ∙ sym (evaluate-map H (sum E F G) a)
+      (λ f g. evaluate c.ops (sum c.ops f g) v
+      ≡ c.ops.add (evaluate c.ops f v) (evaluate c.ops g v))
+      (λ F G. ap (λ w. evaluate c.ops w v) (sym (sum-map H F G))
+      ∙ sym (evaluate-map H (sum E F G) a)
       ∙ ap (underlying c) (Evaluation.value_of_sum L F G a)
       ∙ ap₂ c.ops.add (evaluate-map H F a) (evaluate-map H G a))
 

@@ -34,6 +34,7 @@ module _ (F : Field) (W : IsFiniteField F) (h t : List (List ℕ))
   alone c l = All-cons (field_values F).Valid (constant F c) [] (constant_valid F W c l)
       (All-nil (field_values F).Valid)
 
+  -- t - c is a polynomial
   pub less_constant_polynomial : (c : ℕ) → c < F.characteristic
       → IsPolynomial (field_values F) (less_constant (field_values F).ops t (constant F c))
   less_constant_polynomial c l =

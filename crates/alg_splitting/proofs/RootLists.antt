@@ -47,11 +47,12 @@ pub rising_differ : (vs : List (List ℕ)) → AllPairs IsBefore vs → AllPairs
 rising_differ vs r = λ i j d l k e. not_before_itself (slice_index_or vs j d)
     (subst (λ w. IsBefore w (slice_index_or vs j d)) e (r i j d l k))
 
--- the first of a rising list comes before the rest, which rises
+-- the first of a rising list comes before the rest
 pub first_before : (v : List ℕ) (vs : List (List ℕ)) → AllPairs IsBefore (v ∷ vs) → (w : List ℕ)
     → Contains vs w → IsBefore v w
 first_before v vs r w (k, l, e) = subst (IsBefore v) e (r 0 (suc k) w (omega arith) (omega arith))
 
+-- which rises too
 pub rest_rising : (v : List ℕ) (vs : List (List ℕ)) → AllPairs IsBefore (v ∷ vs)
     → AllPairs IsBefore vs
 rest_rising v vs r = λ i j d l k. r (suc i) (suc j) d (omega arith) (omega arith)

@@ -169,5 +169,6 @@ pub powers_of_generator : (E F : Field) → IsFiniteField E → IsFiniteField F
     → IsFrobeniusAtRoots F (constants F E.polynomial) i
     (constants F (power (field_values E).ops (generator E) (E.characteristic ^ i)))
 powers_of_generator E F V W e i = λ v r.
-    value_of_field_power F W E V e v r (generator E) (generator_is_value E F V W) (E.characteristic ^ i)
+    value_of_field_power F W E V e v r (generator E) (generator_is_value E F V W)
+    (E.characteristic ^ i)
     ∙ ap₂ (λ w q. power (field_values F).ops w (q ^ i)) (value_of_field_generator F W E V e v r) e

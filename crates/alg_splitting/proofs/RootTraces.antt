@@ -183,7 +183,8 @@ module _ (F : Field) (W : IsFiniteField F) where
         (s k (omega arith))
         (λ v r. value_of_sum (values_set F) (values_ring F W) v r.0
         (poly_total (field_values F).ops k term) (term k)
-        (total_valid (values_ring F W) k term (λ i l. term_valid i (omega arith))) (term_valid k (omega arith))
+        (total_valid (values_ring F W) k term (λ i l. term_valid i (omega arith)))
+        (term_valid k (omega arith))
         ∙ ap ((field_values F).ops.add
         (evaluate (field_values F).ops (poly_total (field_values F).ops k term) v))
         (value_of_trim (values_set F) (values_ring F W) v r.0

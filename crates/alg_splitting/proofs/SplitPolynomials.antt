@@ -83,7 +83,8 @@ module _ (F : Field) (W : IsFiniteField F) where
 
   -- a root of a product is a root of one factor
   root_of_product : (q g : List (List ℕ)) → All (field_values F).Valid q
-      → All (field_values F).Valid g → (v : List ℕ) → IsRoot F (poly_product (field_values F).ops q g) v
+      → All (field_values F).Valid g → (v : List ℕ)
+      → IsRoot F (poly_product (field_values F).ops q g) v
       → evaluate (field_values F).ops g v ≢ (field_values F).ops.zero → IsRoot F q v
   root_of_product q g vq vg v r n = (
     r.0,
@@ -200,7 +201,8 @@ module _ (F : Field) (W : IsFiniteField F) where
     where
       valid : All (field_values F).Valid (a ∷ (field_values F).ops.one ∷ [])
       valid = All-cons (field_values F).Valid a ((field_values F).ops.one ∷ []) va
-          (All-cons (field_values F).Valid (field_values F).ops.one [] (values_ring F W).one_valid (All-nil (field_values F).Valid))
+          (All-cons (field_values F).Valid (field_values F).ops.one [] (values_ring F W).one_valid
+          (All-nil (field_values F).Valid))
 
   -- **a monic polynomial of degree 1 has the negative of its constant coefficient as its one root**
   pub root_of_degree_one : (h : List (List ℕ)) → IsPolynomial (field_values F) h
