@@ -34,7 +34,7 @@ use Rattle.alg_galois.proofs.Fields.{modulus_of, finite}
 use Rattle.alg_galois.proofs.FieldSizes.{all_values, power_of_size}
 use Rattle.alg_splitting.specs.PrivateSearch.{Splits, variable, poly_total, AreCongruent, IsFrobeniusModulo, IsFrobeniusAtRoots}
 use Rattle.alg_splitting.proofs.ValueLaws.{values_set, values_ring, values_field}
-use Rattle.alg_splitting.proofs.PolynomialValues.{value_of_difference, value_of_power, value_of_variable, value_of_multiple, value_by_places_of}
+use Rattle.alg_splitting.proofs.PolynomialValues.{value_of_difference, value_of_power, value_of_variable, value_of_multiple, power_of_value}
 use Rattle.alg_splitting.proofs.SplitPolynomials.{linear_splits, split_divisor, roots_bounded}
 use Rattle.alg_splitting.proofs.RootDivisors.{divisor_root, gcd_root}
 
@@ -142,42 +142,32 @@ module _ (F : Field) (W : IsFiniteField F) where
     unfolding coefficient_power term
     power_by_terms =
         ap (λ w. power Q w F.characteristic)
-        (sym (polynomial_is_value (values_set F) (values_ring F W) a)
-        ∙ value_by_places_of L (generator (values_set F) (values_ring F W))
+        (sym (polynomial_is_value (values_set F) (values_ring F W) a))
+        ∙ power_of_value L F.characteristic W.characteristic characteristic
         (map (constant (values_set F) (values_ring F W)) (elements (field_values F) a.0 a.1.0))
-        ∙ ap (λ n. total Q n (λ j. Q.mul
+        (generator (values_set F) (values_ring F W))
+        ∙ ap (λ n. total Q n (λ j. Q.mul (power Q
         (slice_index_or (map (constant (values_set F) (values_ring F W))
-        (elements (field_values F) a.0 a.1.0)) j Q.zero)
-        (power Q (generator (values_set F) (values_ring F W)) j)))
+        (elements (field_values F) a.0 a.1.0)) j Q.zero) F.characteristic)
+        (power Q (generator (values_set F) (values_ring F W)) (F.characteristic * j))))
         (length-map (elements (field_values F) a.0 a.1.0)
         (constant (values_set F) (values_ring F W))
         ∙ sym (length-map (elements (field_values F) a.0 a.1.0) (underlying (field_values F)))
-        ∙ ap length (elements_are (field_values F) a.0 a.1.0)))
-        ∙ fold-map powers_kept (length a.0) _
-        ∙ total_same Q (length a.0) _ _ (λ j l.
-        Powers.power_product L _ _ F.characteristic
-        ∙ ap₂ Q.mul
+        ∙ ap length (elements_are (field_values F) a.0 a.1.0))
+        ∙ total_same Q (length a.0) _ _ (λ j l. ap₂ Q.mul
         (ap (λ w. power Q w F.characteristic)
         (sym (place-map (constant_homomorphism (values_set F) (values_ring F W))
         (elements (field_values F) a.0 a.1.0) j))
         ∙ sym (power-map (constant_homomorphism (values_set F) (values_ring F W))
         (slice_index_or (elements (field_values F) a.0 a.1.0) j E.zero) F.characteristic))
-        (Powers.power_power L (generator (values_set F) (values_ring F W)) j F.characteristic
-        ∙ ap₂ (power Q)
+        (ap (λ w. power Q w (F.characteristic * j))
         (same_polynomial (values_set F) (values_ring F W)
-        (generator (values_set F) (values_ring F W)) y variable_polynomial.1)
-        (mul_comm j F.characteristic)))
+        (generator (values_set F) (values_ring F W)) y variable_polynomial.1)))
       where
         characteristic : times Q F.characteristic Q.one ≡ Q.zero
         characteristic = polynomial_characteristic (values_set F) (values_ring F W) F.characteristic
             W.characteristic
             (finite F.characteristic W.characteristic F.polynomial (modulus_of F W)).characteristic
-
-        powers_kept : Keeps (λ b. power Q b F.characteristic) Q.zero Q.add Q.zero Q.add
-        powers_kept = record {
-          unit = Frobenius.power_of_zero L F.characteristic W.characteristic characteristic;
-          both = Frobenius.power_of_sum L F.characteristic W.characteristic characteristic;
-        }
 
   -- a power of y has one coefficient more than its exponent
   length_power : (m : ℕ) → length (poly_power (field_values F).ops (variable F) m) ≡ suc m

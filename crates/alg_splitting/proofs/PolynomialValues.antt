@@ -1,18 +1,21 @@
 -- The values of sums, products and powers of polynomials, over the elements of any ring.
-use Rattle.std.proofs.Common.{◌≡◌, ℕ, zero, suc, ◌<◌, List, [], ◌∷◌, map, All, length, slice_index_or, refl, ap, ap₂, sym, ◌∙◌, arith}
+use Rattle.std.proofs.Common.{◌≡◌, ℕ, zero, suc, ◌*◌, ◌<◌, List, [], ◌∷◌, map, All, length, slice_index_or, refl, ap, ap₂, sym, ◌∙◌, arith}
+use Rattle.std.proofs.Math.Nat.{mul_comm}
 use Rattle.std.proofs.lemmas.List.{length-map}
 use Rattle.std.proofs.lemmas.List.Elements.{All-nil}
-use Rattle.alg_model.specs.Coefficients.{Ops, Carrier, power}
+use Rattle.alg_model.specs.Coefficients.{Ops, Carrier, power, times, IsPrime}
 use Rattle.alg_model.specs.Polynomials.{sum, scale, product, trim, poly_sum, poly_negative, poly_difference, poly_product, poly_power, evaluate}
 use Rattle.alg_model.specs.Factors.{IsDivision, Divides}
 use Rattle.alg_model.specs.Fields.{IsRing}
 use Rattle.alg_rings.specs.Laws.{IsPropositional, RingLaws}
 use Rattle.alg_rings.proofs.Rings
-use Rattle.alg_rings.proofs.Folds.{fold, fold_same, fold-map, sums_kept}
+use Rattle.alg_rings.proofs.Powers
+use Rattle.alg_rings.proofs.Folds.{Keeps, fold, fold_same, fold-map, sums_kept}
 use Rattle.alg_rings.proofs.Elements.{Element, element_ops, underlying, on_valid, on_valid₂, on_elements}
 use Rattle.alg_rings.proofs.Homomorphisms.{evaluate-map, trim-map, sum-map, scale-map, negatives-map, product-map, poly_power-map, power-map, place-map}
 use Rattle.alg_rings.proofs.Validity.{sum_valid, negatives_valid, product_valid, trim_valid, value_at_valid}
 use Rattle.alg_rings.proofs.Evaluation
+use Rattle.alg_fields.proofs.Frobenius
 use Rattle.alg_linear.specs.PrivateGrids.{total}
 use Rattle.alg_linear.proofs.Sums.{total_scale, total_same, total_last}
 use Rattle.alg_splitting.specs.PrivateSearch.{poly_total}
@@ -40,6 +43,26 @@ module _ {A : Type 0} {o : Ops A} (L : RingLaws o) (a : A) where
     where
       turn : (x y z : A) → o.mul x (o.mul y z) ≡ o.mul y (o.mul z x)
       turn x y z = L.mul_comm x (o.mul y z) ∙ L.mul_assoc y z x
+
+-- **in characteristic p: the power p of a value is the sum of the coefficients' powers p times the
+-- powers of a^p**
+pub power_of_value : {A : Type 0} {o : Ops A} (L : RingLaws o) (p : ℕ) → IsPrime p
+    → times o p o.one ≡ o.zero → (f : List A) (a : A)
+    → power o (evaluate o f a) p ≡ total o (length f)
+    (λ j. o.mul (power o (slice_index_or f j o.zero) p) (power o a (p * j)))
+power_of_value {A} {o} L p prime characteristic f a =
+    ap (λ w. power o w p) (value_by_places_of L a f)
+    ∙ fold-map powers_kept (length f) _
+    ∙ total_same o (length f) _ _ (λ j l.
+    Powers.power_product L (slice_index_or f j o.zero) (power o a j) p
+    ∙ ap (o.mul (power o (slice_index_or f j o.zero) p))
+    (Powers.power_power L a j p ∙ ap (power o a) (mul_comm j p)))
+  where
+    powers_kept : Keeps (λ b. power o b p) o.zero o.add o.zero o.add
+    powers_kept = record {
+      unit = Frobenius.power_of_zero L p prime characteristic;
+      both = Frobenius.power_of_sum L p prime characteristic;
+    }
 
 -- a sum of many is valid
 pub total_valid : {A : Type 0} {c : Carrier A} (R : IsRing c) (n : ℕ) (f : ℕ → List A)

@@ -21,7 +21,7 @@ use Rattle.alg_galois.proofs.Fields.{modulus_of, finite}
 use Rattle.alg_galois.proofs.Embeddings.{generator_is_value}
 use Rattle.alg_splitting.specs.PrivateSearch.{variable, poly_total, IsFrobeniusAtRoots}
 use Rattle.alg_splitting.proofs.ValueLaws.{values_set, values_ring}
-use Rattle.alg_splitting.proofs.PolynomialValues.{value_of_variable, value_of_power, value_of_remainder, value_of_trim, value_of_scale, value_of_total, value_by_places_of}
+use Rattle.alg_splitting.proofs.PolynomialValues.{value_of_variable, value_of_power, value_of_remainder, value_of_trim, value_of_scale, value_of_total, power_of_value}
 use Rattle.alg_splitting.proofs.ConstantPolynomials.{value_of_field_power, value_of_field_generator}
 use Rattle.alg_splitting.proofs.RootDivisors.{divisor_root}
 
@@ -48,8 +48,7 @@ module _ (F : Field) (W : IsFiniteField F) where
       ∙ ap (λ w. w.0) (sym (frobenius_last L F.characteristic i (v, vv)))
       ∙ power-map H (v, vv) (F.characteristic ^ suc i)
 
-  -- **the power p of the value of a polynomial is the sum of its coefficients' powers p times the
-  -- powers of v^p**
+  -- the power p of the value of a polynomial at v
   module _ (a : List (List ℕ)) (va : All (field_values F).Valid a) (v : List ℕ)
       (vv : (field_values F).Valid v) where
     abbrev entries : List (Element (field_values F))
@@ -72,36 +71,23 @@ module _ (F : Field) (W : IsFiniteField F) where
         (elements_are (field_values F) a va)))
         (power-map H (v, vv) (F.characteristic * j))
 
-    power_of_value : power (field_values F).ops (evaluate (field_values F).ops a v)
+    power_by_terms : power (field_values F).ops (evaluate (field_values F).ops a v)
         F.characteristic ≡ (total (element_ops (values_ring F W)) (length a) term).0
     unfolding term
-    power_of_value =
+    power_by_terms =
         ap (λ w. power (field_values F).ops w F.characteristic)
         (ap (λ w. evaluate (field_values F).ops w v) (sym (elements_are (field_values F) a va))
         ∙ sym (evaluate-map H entries (v, vv)))
         ∙ sym (power-map H (evaluate E entries (v, vv)) F.characteristic)
         ∙ ap (λ w. w.0)
-        (ap (λ w. power E w F.characteristic)
-        (value_by_places_of L (v, vv) entries
-        ∙ ap (λ n. total E n (λ j. E.mul (slice_index_or entries j E.zero) (power E (v, vv) j)))
+        (power_of_value L F.characteristic W.characteristic
+        (finite F.characteristic W.characteristic F.polynomial (modulus_of F W)).characteristic
+        entries (v, vv)
+        ∙ ap (λ n. total E n (λ j. E.mul
+        (power E (slice_index_or entries j E.zero) F.characteristic)
+        (power E (v, vv) (F.characteristic * j))))
         (sym (length-map entries (underlying (field_values F)))
         ∙ ap length (elements_are (field_values F) a va)))
-        ∙ fold-map powers_kept (length a) _
-        ∙ total_same E (length a) _ _ (λ j l.
-        Powers.power_product L _ _ F.characteristic
-        ∙ ap (E.mul (power E (slice_index_or entries j E.zero) F.characteristic))
-        (Powers.power_power L (v, vv) j F.characteristic
-        ∙ ap (power E (v, vv)) (mul_comm j F.characteristic))))
-      where
-        characteristic : times E F.characteristic E.one ≡ E.zero
-        characteristic =
-            (finite F.characteristic W.characteristic F.polynomial (modulus_of F W)).characteristic
-
-        powers_kept : Keeps (λ b. power E b F.characteristic) E.zero E.add E.zero E.add
-        powers_kept = record {
-          unit = Frobenius.power_of_zero L F.characteristic W.characteristic characteristic;
-          both = Frobenius.power_of_sum L F.characteristic W.characteristic characteristic;
-        }
 
   -- ---- at the roots of g
   module _ (g : List (List ℕ)) where
@@ -142,7 +128,7 @@ module _ (F : Field) (W : IsFiniteField F) where
         ∙ ap ((field_values F).ops.mul (power (field_values F).ops
         (slice_index_or a j (field_values F).ops.zero) F.characteristic)) (st j l v r)
         ∙ sym (term_is a va.0 v r.0 j))
-        ∙ sym (power_of_value a va.0 v r.0)
+        ∙ sym (power_by_terms a va.0 v r.0)
         ∙ ap (λ w. power (field_values F).ops w F.characteristic) (s v r) ∙ next_power v r.0 i
       where
         coefficient_valid : (j : ℕ) → (field_values F).Valid (power (field_values F).ops
