@@ -1,7 +1,7 @@
 -- Polynomials modulo g, the powers y^(p^i) modulo g, and what of g splits.
 use Rattle.std.proofs.Common.{◌≡◌, ◌≢◌, ◌↔◌, ℕ, zero, suc, ◌+◌, ◌*◌, ◌^◌, ◌<◌, List, [], ◌∷◌, All, AllPairs, length, map, slice_index_or, refl, ap, ap₂, sym, ◌∙◌, subst, arith, pow-suc, mul-zero, mul-suc}
 use Rattle.std.specs.List.{Contains}
-use Rattle.std.proofs.Math.Nat.{pow-zero, mul_comm}
+use Rattle.std.proofs.Math.Nat.{pow-zero}
 use Rattle.std.proofs.lemmas.List.{length-map}
 use Rattle.alg_model.specs.Coefficients.{Ops, power, times}
 use Rattle.alg_model.specs.Polynomials.{scale, trim, poly_sum, poly_difference, poly_product, poly_power, evaluate}
@@ -14,7 +14,6 @@ use Rattle.alg_rings.proofs.Powers
 use Rattle.alg_rings.proofs.Lists
 use Rattle.alg_rings.proofs.Modulo
 use Rattle.alg_rings.proofs.Modulo.{Same}
-use Rattle.alg_rings.proofs.Folds.{fold-map, Keeps}
 use Rattle.alg_rings.proofs.Elements.{Element, underlying, element_ops, element_laws, underlying_injective, underlying_homomorphism, elements, elements_are}
 use Rattle.alg_rings.proofs.Homomorphisms.{power-map, place-map}
 use Rattle.alg_rings.proofs.Divisors.{Polynomial, polynomial_ops, polynomial_laws, same_polynomial, power_is, length_poly_product}
@@ -23,7 +22,6 @@ use Rattle.alg_rings.proofs.Validity.{value_at_valid, scale_valid}
 use Rattle.alg_rings.proofs.Trims.{length_poly_difference}
 use Rattle.alg_divisors.proofs.EuclideanPolynomials.{one_is}
 use Rattle.alg_divisors.proofs.PolynomialFactors.{divides_to, divides_from}
-use Rattle.alg_fields.proofs.Frobenius
 use Rattle.alg_fields.proofs.Constants.{constant, constant_homomorphism, alone}
 use Rattle.alg_fields.proofs.Generator.{generator, polynomial_is_value}
 use Rattle.alg_fields.proofs.Derivations.{polynomial_characteristic}

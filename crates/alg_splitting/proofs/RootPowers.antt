@@ -1,22 +1,18 @@
 -- Polynomials whose values at the roots of g are the powers v^(p^i).
 use Rattle.std.proofs.Common.{◌≡◌, ℕ, suc, ◌*◌, ◌^◌, ◌<◌, List, All, length, slice_index_or, ap, ap₂, sym, ◌∙◌}
-use Rattle.std.proofs.Math.Nat.{pow-zero, mul_comm}
+use Rattle.std.proofs.Math.Nat.{pow-zero}
 use Rattle.std.proofs.lemmas.List.{length-map}
-use Rattle.alg_model.specs.Coefficients.{Ops, power, times}
+use Rattle.alg_model.specs.Coefficients.{Ops, power}
 use Rattle.alg_model.specs.Polynomials.{scale, trim, poly_power, evaluate}
 use Rattle.alg_model.specs.Factors.{IsPolynomial, IsDivision, Divides}
 use Rattle.alg_model.specs.Maps.{Field, IsFiniteField, field_values, generator, constants}
 use Rattle.alg_model.specs.Roots.{IsRoot}
 use Rattle.alg_rings.specs.Laws.{RingLaws}
-use Rattle.alg_rings.proofs.Powers
-use Rattle.alg_rings.proofs.Folds.{fold-map, Keeps}
 use Rattle.alg_rings.proofs.Elements.{Element, underlying, element_ops, element_laws, underlying_homomorphism, elements, elements_are}
 use Rattle.alg_rings.proofs.Homomorphisms.{Homomorphism, power-map, place-map, evaluate-map}
 use Rattle.alg_rings.proofs.Validity.{power_valid, place_valid, scale_valid, trim_valid}
 use Rattle.alg_linear.specs.PrivateGrids.{total}
-use Rattle.alg_linear.proofs.Sums.{total_same}
 use Rattle.alg_finite.proofs.FiniteField.{frobenius_last}
-use Rattle.alg_fields.proofs.Frobenius
 use Rattle.alg_galois.proofs.Fields.{modulus_of, finite}
 use Rattle.alg_galois.proofs.Embeddings.{generator_is_value}
 use Rattle.alg_splitting.specs.PrivateSearch.{variable, poly_total, IsFrobeniusAtRoots}
