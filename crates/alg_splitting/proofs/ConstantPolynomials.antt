@@ -1,5 +1,5 @@
 -- Polynomials over the prime field as polynomials over a field F of its characteristic.
-use Rattle.std.proofs.Common.{◌≡◌, ℕ, ◌<◌, List, All, length, map, slice_index_or, refl, ap, ap₂, sym, ◌∙◌, subst, arith}
+use Rattle.std.proofs.Common.{◌≡◌, ℕ, ◌<◌, List, [], ◌∷◌, All, length, map, slice_index_or, refl, ap, ap₂, sym, ◌∙◌, subst, arith}
 use Rattle.std.proofs.lemmas.List.{length-map}
 use Rattle.alg_model.specs.Coefficients.{Ops, power, mod_ops, residues, IsPrime}
 use Rattle.alg_model.specs.Polynomials.{poly_sum, poly_product, poly_power, trim, leading, evaluate}
@@ -17,6 +17,7 @@ use Rattle.alg_galois.proofs.Fields.{IsModulus, modulus_of, field_of, map_map, m
 use Rattle.alg_galois.proofs.FieldEmbeddings.{composed}
 use Rattle.alg_galois.proofs.Embeddings.{of_two_fields}
 use Rattle.alg_galois.proofs.EmbeddingRoots.{root_from}
+use Rattle.alg_splitting.specs.PrivateSearch.{variable}
 
 -- ---- a field E of the same characteristic, at a root in F of its polynomial
 module _ (p : ℕ) (h : IsPrime p) (f : List ℕ) (M : IsModulus p f) (g : List ℕ)
@@ -221,6 +222,10 @@ module _ (F : Field) (W : IsFiniteField F) where
     constants_polynomial d.0 d.1,
     sym (constants_product d.0 g d.1.0 vg.0) ∙ ap (constants F) d.2,
   )
+
+  -- y is y
+  pub constants_variable : constants F (0 ∷ 1 ∷ []) ≡ variable F
+  constants_variable = ap₂ (λ b d. b ∷ d ∷ []) value_homomorphism.zero value_homomorphism.one
 
   -- ---- a field E of the same characteristic, at a root v in F of its polynomial
   module _ (E : Field) (V : IsFiniteField E) (e : E.characteristic ≡ F.characteristic)

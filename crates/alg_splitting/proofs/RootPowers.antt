@@ -1,8 +1,9 @@
 -- Polynomials whose values at the roots of g are the powers v^(p^i).
-use Rattle.std.proofs.Common.{◌≡◌, ℕ, suc, ◌*◌, ◌^◌, ◌<◌, List, All, length, slice_index_or, ap, ap₂, sym, ◌∙◌}
+use Rattle.std.proofs.Common.{◌≡◌, ℕ, suc, ◌*◌, ◌^◌, ◌<◌, List, [], ◌∷◌, All, length, slice_index_or, ap, ap₂, sym, ◌∙◌, arith}
 use Rattle.std.proofs.Math.Nat.{pow-zero}
 use Rattle.std.proofs.lemmas.List.{length-map}
-use Rattle.alg_model.specs.Coefficients.{Ops, power}
+use Rattle.std.proofs.lemmas.List.Elements.{All-nil, All-cons}
+use Rattle.alg_model.specs.Coefficients.{Ops, power, mod_ops, residues}
 use Rattle.alg_model.specs.Polynomials.{scale, trim, poly_power, evaluate}
 use Rattle.alg_model.specs.Factors.{IsPolynomial, IsDivision, Divides}
 use Rattle.alg_model.specs.Maps.{Field, IsFiniteField, field_values, generator, constants}
@@ -18,7 +19,7 @@ use Rattle.alg_galois.proofs.Embeddings.{generator_is_value}
 use Rattle.alg_splitting.specs.PrivateSearch.{variable, poly_total, IsFrobeniusAtRoots}
 use Rattle.alg_splitting.proofs.ValueLaws.{values_set, values_ring}
 use Rattle.alg_splitting.proofs.PolynomialValues.{value_of_variable, value_of_power, value_of_remainder, value_of_trim, value_of_scale, value_of_total, power_of_value}
-use Rattle.alg_splitting.proofs.ConstantPolynomials.{value_of_field_power, value_of_field_generator}
+use Rattle.alg_splitting.proofs.ConstantPolynomials.{constants_valid, constants_power, constants_division, constants_variable, value_of_field_power, value_of_field_generator}
 use Rattle.alg_splitting.proofs.RootDivisors.{divisor_root}
 
 module _ (F : Field) (W : IsFiniteField F) where
@@ -144,6 +145,32 @@ module _ (F : Field) (W : IsFiniteField F) where
     pub powers_of_divisor : (i : ℕ) (a h : List (List ℕ)) → IsPolynomial (field_values F) h
         → Divides (field_values F) h g → IsFrobeniusAtRoots F g i a → IsFrobeniusAtRoots F h i a
     powers_of_divisor i a h vh d s = λ v r. s v (divisor_root F W h g vh.0 d v r)
+
+-- **over the prime field: the remainders of y^(p^i) by f, at the roots of f**
+pub powers_of_residues : (F : Field) → IsFiniteField F → (f : List ℕ)
+    → IsPolynomial (residues F.characteristic) f → (i : ℕ) (q r : List ℕ)
+    → IsDivision (residues F.characteristic)
+    (poly_power (mod_ops F.characteristic) (0 ∷ 1 ∷ []) (F.characteristic ^ i)) f q r
+    → IsFrobeniusAtRoots F (constants F f) i (constants F r)
+powers_of_residues F W f vf i q r D = λ v z.
+    value_of_remainder (values_set F) (values_ring F W) v z.0
+    (constants F (poly_power (mod_ops F.characteristic) (0 ∷ 1 ∷ []) (F.characteristic ^ i)))
+    (constants F f) (constants F q) (constants F r) (constants_valid F W f vf.0)
+    (constants_division F W
+    (poly_power (mod_ops F.characteristic) (0 ∷ 1 ∷ []) (F.characteristic ^ i)) f q r vf D) z.1
+    ∙ ap (λ w. evaluate (field_values F).ops w v)
+    (constants_power F W (0 ∷ 1 ∷ []) residues_valid (F.characteristic ^ i))
+    ∙ value_of_power (values_set F) (values_ring F W) v z.0 (constants F (0 ∷ 1 ∷ []))
+    (constants_valid F W (0 ∷ 1 ∷ []) residues_valid) (F.characteristic ^ i)
+    ∙ ap (λ w. power (field_values F).ops w (F.characteristic ^ i))
+    (ap (λ w. evaluate (field_values F).ops w v) (constants_variable F W)
+    ∙ value_of_variable (values_set F) (values_ring F W) v z.0)
+  where
+    residues_valid : All (residues F.characteristic).Valid (0 ∷ 1 ∷ [])
+    residues_valid = let l : 1 < F.characteristic = W.characteristic.above_one in
+        All-cons (residues F.characteristic).Valid 0 (1 ∷ []) (omega arith)
+        (All-cons (residues F.characteristic).Valid 1 [] l
+        (All-nil (residues F.characteristic).Valid))
 
 -- **over the prime field: the powers p^i of the generator of E, at the roots of its polynomial**
 pub powers_of_generator : (E F : Field) → IsFiniteField E → IsFiniteField F
