@@ -11,8 +11,9 @@
 --                                   first k conjugates of c * v
 --     IsTraceAtRoots F g c a        the value of a at each root v of g is the trace of c * v
 --     IsConstantAtRoots F g a       the value of a at each root of g is a constant
---     IsNarrowed F f k h   h is a divisor of f that splits, monic and not constant, whose roots agree
---                          in the traces of x^j times them for all j below k, x being the generator
+--     IsNarrowed F f k h   h is a divisor of f that splits, monic and not constant, whose roots
+--                          agree in the traces of x^j times them for all j below k, x being the
+--                          generator
 use Rattle.std.specs.Prelude.{◌≡◌, ◌≢◌, ℕ, zero, suc, ◌^◌, ◌<◌, List, [], ◌∷◌, length, All, AllPairs}
 use Rattle.alg_model.specs.Coefficients.{Ops, power}
 use Rattle.alg_model.specs.Polynomials.{evaluate, poly_sum, poly_difference, poly_power}
