@@ -12,8 +12,10 @@
 --                                  the maps of that field agree
 --     AreZeros L E F S restriction sending v     the polynomials for E, for the fields of S and for
 --                                  what is prescribed are zero at v
+--     Selects L E F needed i sending g     the roots of g are the values that agree at each needed
+--                                  field below i and send what is prescribed
 --     AreGiven L E F sending       what is prescribed is a value of E and one of F
-use Rattle.std.specs.Prelude.{◌≡◌, ◌≢◌, ◌⊎◌, ℕ, ◌<◌, List, Option, MatchOption}
+use Rattle.std.specs.Prelude.{◌≡◌, ◌≢◌, ◌⊎◌, ◌↔◌, ℕ, ◌<◌, List, Option, MatchOption}
 use Rattle.alg_model.specs.Maps.{field_values, degree_of, comp, constants}
 use Rattle.alg_model.specs.Roots.{IsRoot}
 use Rattle.alg_model.specs.Lattices.{Lattice, field_at, Stored}
@@ -74,3 +76,13 @@ module _ (L : Lattice) (E F : ℕ) where
   AreGiven sending = MatchOption sending (Unit {0})
       (λ s. (field_values (field_at L.rows E)).Valid s.0
       × (field_values (field_at L.rows F)).Valid s.1)
+
+  -- the fields below i that are needed
+  abbrev pub Passed : (ℕ → Type 0) → ℕ → ℕ → Type 0
+  Passed needed i d = (d < i) × needed d
+
+  -- g has been made of the polynomials for the needed fields below i and for what is prescribed
+  pub record Selects (needed : ℕ → Type 0) (i : ℕ) (sending : Option (List ℕ × List ℕ))
+      (g : List (List ℕ)) : Type 0 where
+    pub exactly : (w : List ℕ)
+        → IsRoot (field_at L.rows F) g w ↔ Fits (Passed needed i) sending w
