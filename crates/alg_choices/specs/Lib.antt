@@ -1,2 +1,3 @@
 pub mod Restrictions
 pub mod Fitting
+pub mod Degrees
