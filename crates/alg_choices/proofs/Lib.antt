@@ -2,3 +2,4 @@ pub mod Restrictions
 pub mod Fitting
 pub mod Searching
 pub mod Members
+pub mod Linking

@@ -1,3 +1,4 @@
 pub mod Restrictions
 pub mod Fitting
 pub mod Degrees
+pub mod Linking
