@@ -1,12 +1,11 @@
 -- A value is a candidate exactly if it is a root of the polynomial of E that agrees at enough common
 -- subfields and sends what is prescribed.
-use Rattle.std.proofs.Common.{◌≡◌, ◌≢◌, ◌⊎◌, ◌↔◌, ℕ, zero, suc, ◌+◌, ◌-◌, ◌*◌, ◌<◌, ◌≤◌, List, length, refl, ap, sym, ◌∙◌, subst, inl, inr, ⊎_elim, arith, Option, Some, None, Equal, nat_cmp}
+use Rattle.std.proofs.Common.{◌≡◌, ◌⊎◌, ◌↔◌, ℕ, zero, suc, ◌+◌, ◌-◌, ◌*◌, ◌<◌, ◌≤◌, List, length, ap, sym, ◌∙◌, subst, inl, inr, ⊎_elim, arith, Option, Equal, nat_cmp}
 use Rattle.std.proofs.lemmas.Bool.{cases_eq, cases_lt}
 use Rattle.std.proofs.Math.Nat.{mul-le-mul_right}
 use Rattle.std.proofs.lemmas.Cmp.{nat_cmp_total, tied_itself}
 use Rattle.std.proofs.lemmas.Nat.Gcd.{le_of_dvd}
-use Prim.Native.Nat.{◌∣◌}
-use Rattle.alg_model.specs.Maps.{Field, IsFiniteField, field_values, degree_of, generator, constants, apply, comp, identity_map, IsEmbedding}
+use Rattle.alg_model.specs.Maps.{Field, IsFiniteField, degree_of, generator, constants, apply, comp, identity_map, IsEmbedding}
 use Rattle.alg_model.specs.Factors.{order_by}
 use Rattle.alg_model.specs.Roots.{IsRoot, IsBefore}
 use Rattle.alg_model.specs.Lattices.{Lattice, field_at, Stored, IsCompatible}
@@ -133,9 +132,9 @@ module _ {L : Lattice} (C : IsCompatible L) where
           D = C.compatible.embedding h
 
       -- and else there is none
-      pub stored_none : {sending : Option (List ℕ × List ℕ)} → ¬ IsSent (field_at L.rows F) m sending
-          → (v : List ℕ) → IsCandidate L E F sending v → ⊥
-      stored_none {sending} fails v c = fails (subst (λ x. IsSent FF x sending) (stored_candidate c).0 c.sent)
+      pub stored_sent : {sending : Option (List ℕ × List ℕ)} {v : List ℕ} → IsCandidate L E F sending v
+          → IsSent (field_at L.rows F) m sending
+      stored_sent {sending} c = subst (λ x. IsSent FF x sending) (stored_candidate c).0 c.sent
 
     -- ---- which common subfields are enough
     -- all of them

@@ -3,3 +3,5 @@ pub mod Fitting
 pub mod Searching
 pub mod Members
 pub mod Linking
+pub mod Counting
+pub mod Laws

@@ -1,10 +1,10 @@
 -- A program that stores links between the fields that it lists, and maps out of them, has filled the
 -- lattice.
-use Rattle.std.proofs.Common.{◌≡◌, ◌≢◌, ℕ, ◌<◌, ◌≤◌, List, length, refl, sym, subst, ⊎_elim, Option}
+use Rattle.std.proofs.Common.{◌≡◌, ℕ, ◌+◌, ◌<◌, ◌≤◌, List, length, refl, sym, ap, ◌∙◌, arith, subst, ⊎_elim, Option}
 use Rattle.std.proofs.lemmas.Bool.{cases_eq}
 use Prim.Native.Nat.{◌∣◌}
 use Rattle.std.proofs.lemmas.Nat.Gcd.{dvd_trans}
-use Rattle.alg_model.specs.Maps.{degree_of, comp, IsEmbedding}
+use Rattle.alg_model.specs.Maps.{degree_of}
 use Rattle.alg_model.specs.Lattices.{Lattice, Row, field_at, Stored, Grows, IsCompatible}
 use Rattle.alg_model.specs.Candidates.{embedding_by, IsMember, IsCandidate}
 use Rattle.alg_model.specs.Candidates.IsMember.{of_source, of_target}
@@ -18,7 +18,7 @@ use Rattle.alg_compatible.proofs.Filling.{Inserted, old_row, filling_compatible,
 use Rattle.alg_compatible.proofs.Laws.{filling_rows_law}
 use Rattle.alg_compatible.proofs.Transfer.{field_finite}
 use Rattle.alg_compatible.proofs.Storing.{Shows, filled_by_showing}
-use Rattle.alg_choices.specs.Linking.{IsListed, IsLink, MayStore, Links}
+use Rattle.alg_choices.specs.Linking.{IsListed, IsListedBelow, IsLink, MayStore, Links}
 use Rattle.alg_choices.specs.Linking.MayStore.{before, link, beyond}
 
 -- an insertion by a candidate
@@ -64,9 +64,6 @@ module _ {L : Lattice} {E F : ℕ} {phi : List (List ℕ)} {M : Lattice} {count 
   place {i} (Model.IsMapInto.stored h) = P.members i (of_target h)
   place {i} (Model.IsMapInto.through h) = P.members i (of_source h)
   place {i} (Model.IsMapInto.made n b r) = P.made i n b
-
-  Pair : ℕ → ℕ → Type 0
-  Pair i k = (n : List (List ℕ)) × Stored M i k n
 
   members : {i j : ℕ} {a b : List (List ℕ)} → IsMapInto L E F phi M.rows i a
       → IsMapInto L E F phi M.rows j b
@@ -133,3 +130,70 @@ filled_is_compatible {L} {M} {E} {F} {sending} {v} C A c D room = (
   },
   filling_grows (inserted C A c D.rows) D,
 )
+
+-- ---- the list of the fields with a map into F, made in steps
+module _ {L : Lattice} {E F : ℕ} {phi : List (List ℕ)} {rows : List Row} where
+  -- at first it is empty
+  pub listed_none : {number : ℕ → ℕ} {into : ℕ → List (List ℕ)}
+      → IsListedBelow 0 number into L E F phi rows 0
+  listed_none = record {
+    is_into = λ a l. absurd (omega arith);
+    below = λ a l. absurd (omega arith);
+    rising = λ a b l k. absurd (omega arith);
+    members = λ i l m. absurd (omega arith);
+    made = λ i l k. absurd (omega arith);
+  }
+
+  module _ {n count : ℕ} {number : ℕ → ℕ} {into : ℕ → List (List ℕ)}
+      (H : IsListedBelow count number into L E F phi rows n) where
+    -- field n goes into F by m, and the longer list has it last
+    pub listed_push : {longer : ℕ → ℕ} {maps : ℕ → List (List ℕ)} {m : List (List ℕ)}
+        → ((a : ℕ) → a < count → (longer a ≡ number a) × (maps a ≡ into a))
+        → longer count ≡ n → maps count ≡ m → IsMapInto L E F phi rows n m
+        → IsListedBelow (count + 1) longer maps L E F phi rows (n + 1)
+    listed_push {longer} {maps} {m} same e f h = record {
+      is_into = λ a l. at a (λ x y. IsMapInto L E F phi rows x y) (λ k. H.is_into a k) h l;
+      below = λ a l. at a (λ x y. x < n + 1) (λ k. let b = H.below a k in omega arith) (omega arith) l;
+      rising = λ a b l k. ⊎_elim
+          (λ (e' : b ≡ count). let x = H.below a (omega arith) in let y = (same a (omega arith)).0 in
+          let z : longer b ≡ n = ap longer e' ∙ e in omega arith)
+          (λ apart. let x = H.rising a b l (omega arith) in let y = (same a (omega arith)).0 in let z = (same b (omega arith)).0 in omega arith)
+          (cases_eq b count);
+      members = λ i l x. ⊎_elim
+          (λ (e' : i ≡ n). (count, omega arith, e ∙ sym e'))
+          (λ apart. let (a, k, g) = H.members i (omega arith) x in (a, omega arith, (same a k).0 ∙ g))
+          (cases_eq i n);
+      made = λ i b l. ⊎_elim
+          (λ (e' : i ≡ n). (count, omega arith, e ∙ sym e'))
+          (λ apart. let (a, k, g) = H.made i b (omega arith) in (a, omega arith, (same a k).0 ∙ g))
+          (cases_eq i n);
+    }
+      where
+        at : (a : ℕ) (T : ℕ → List (List ℕ) → Type 0) → (a < count → T (number a) (into a)) → T n m
+            → a < count + 1 → T (longer a) (maps a)
+        at a T old new l = ⊎_elim
+            (λ (e' : a ≡ count). subst (λ x. T (longer x) (maps x)) (sym e') (rw (e, f) new))
+            (λ apart. let k : a < count = omega arith in let (x, y) = same a k in rw (x, y) (old k))
+            (cases_eq a count)
+
+    -- field n is no member and isn't added
+    pub listed_skip : n < length L.rows → ¬ IsMember L E F n
+        → IsListedBelow count number into L E F phi rows (n + 1)
+    listed_skip small none = record {
+      is_into = H.is_into;
+      below = λ a l. let b = H.below a l in omega arith;
+      rising = H.rising;
+      members = λ i l x. H.members i (⊎_elim (λ (e : i ≡ n). absurd (none (subst (IsMember L E F) e x))) (λ apart. omega arith) (cases_eq i n)) x;
+      made = λ i b l. H.made i b (omega arith);
+    }
+
+  -- **after the last field it has all of them**
+  pub listed_all : IsCompatible L → length L.rows ≤ length rows
+      → {count : ℕ} {number : ℕ → ℕ} {into : ℕ → List (List ℕ)}
+      → IsListedBelow count number into L E F phi rows (length rows)
+      → IsListed count number into L E F phi rows
+  listed_all C more {count} {number} H = record { is_into = H.is_into; members = λ i x. H.members i (below x) x; made = H.made }
+    where
+      below : {i : ℕ} → IsMember L E F i → i < length rows
+      below (of_source h) = let a = (C.compatible.within h).0 in omega arith
+      below (of_target h) = let a = (C.compatible.within h).0 in omega arith

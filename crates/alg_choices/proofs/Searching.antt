@@ -1,9 +1,9 @@
 -- A polynomial whose roots are the candidates, made in steps; its least root is the choice.
-use Rattle.std.proofs.Common.{◌≡◌, ◌↔◌, ℕ, ◌+◌, ◌<◌, List, length, ap, sym, ◌∙◌, subst, ⊎_elim, arith, Option, Some, None}
+use Rattle.std.proofs.Common.{◌≡◌, ◌↔◌, ℕ, ◌+◌, List, length, ap, sym, ◌∙◌, subst, ⊎_elim, arith, Option, Some, None}
 use Rattle.std.specs.Prelude.{MatchOption}
 use Rattle.std.proofs.lemmas.Bool.{cases_eq}
 use Prim.Native.Nat.{◌∣◌}
-use Rattle.alg_model.specs.Maps.{field_values, degree_of, generator, constants, apply, comp, IsEmbedding}
+use Rattle.alg_model.specs.Maps.{field_values, degree_of, constants, comp}
 use Rattle.alg_model.specs.Roots.{IsRoot, IsLeastRoot}
 use Rattle.alg_model.specs.Lattices.{Lattice, field_at, Stored, IsCompatible}
 use Rattle.alg_model.specs.Candidates.{embedding_by, IsSent, IsCandidate, IsChoice}
@@ -12,7 +12,7 @@ use Rattle.alg_compatible.specs.Theorems.{AreFields}
 use Rattle.alg_compatible.proofs.Transfer.{stored_one}
 use Rattle.alg_compatible.proofs.Candidates.{plain_candidate}
 use Rattle.alg_choices.specs.Restrictions.{Extends, IsRestriction, prescription, IsPrescription}
-use Rattle.alg_choices.specs.Fitting.{IsCommonSubfield, AgreesAt, Fits, AreSufficient, Passed, Selects, AreRestrictions, AreZeros, AreGiven}
+use Rattle.alg_choices.specs.Fitting.{AgreesAt, Fits, AreSufficient, Passed, Selects, AreRestrictions, AreZeros, AreGiven}
 use Rattle.alg_choices.proofs.Restrictions.{prescription_is}
 use Rattle.alg_choices.proofs.Fitting.{finite_at, fits_candidate}
 

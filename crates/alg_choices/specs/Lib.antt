@@ -2,3 +2,4 @@ pub mod Restrictions
 pub mod Fitting
 pub mod Degrees
 pub mod Linking
+pub mod Theorems

@@ -3,12 +3,14 @@
 -- the number `number a`, and `into a` is its map into F.
 --     IsListed L E F phi rows ..     the places list the members and the added fields, with their
 --                                    maps into F
+--     IsListedBelow L E F phi rows .. n     the same of the fields below n
 --     IsLink F rows .. a b m         m, followed by b's map into F, is a's
 --     MayStore L F rows .. i k m     m was stored for i and k, or is a link, or a link and then a
 --                                    stored map
 --     Links L F .. M                 M stores such maps alone, the old ones, one for each two places
 --                                    whose degrees divide, and one for each way out of the places
-use Rattle.std.specs.Prelude.{◌≡◌, ◌≢◌, ℕ, ◌<◌, ◌≤◌, List, length}
+--     AreNewPairs L M ps             ps lists the pairs that M has a map for and L has none
+use Rattle.std.specs.Prelude.{◌≡◌, ◌≢◌, ◌↔◌, ℕ, ◌<◌, ◌≤◌, List, length, AllPairs, Contains}
 use Prim.Native.Nat.{◌∣◌}
 use Rattle.alg_model.specs.Maps.{degree_of, comp, IsEmbedding}
 use Rattle.alg_model.specs.Lattices.{Lattice, Row, field_at, Stored}
@@ -22,6 +24,15 @@ module _ (count : ℕ) (number : ℕ → ℕ) (into : ℕ → List (List ℕ)) w
     pub members : (i : ℕ) → IsMember L E F i → (a : ℕ) × (a < count) × (number a ≡ i)
     pub made : (i : ℕ) → length L.rows ≤ i → i < length rows
         → (a : ℕ) × (a < count) × (number a ≡ i)
+
+  -- the same of the fields below n, in the order of their numbers, for a list that is being made
+  pub record IsListedBelow (L : Lattice) (E F : ℕ) (phi : List (List ℕ)) (rows : List Row) (n : ℕ)
+      : Type 0 where
+    pub is_into : (a : ℕ) → a < count → IsMapInto L E F phi rows (number a) (into a)
+    pub below : (a : ℕ) → a < count → number a < n
+    pub rising : (a b : ℕ) → a < b → b < count → number a < number b
+    pub members : (i : ℕ) → i < n → IsMember L E F i → (a : ℕ) × (a < count) × (number a ≡ i)
+    pub made : (i : ℕ) → length L.rows ≤ i → i < n → (a : ℕ) × (a < count) × (number a ≡ i)
 
   -- the one map from place a to place b that agrees with their maps into F
   pub record IsLink (F : ℕ) (rows : List Row) (a b : ℕ) (m : List (List ℕ)) : Type 0 where
@@ -52,3 +63,9 @@ module _ (count : ℕ) (number : ℕ → ℕ) (into : ℕ → List (List ℕ)) w
         → {k : ℕ} {m : List (List ℕ)} → Stored L (number b) k m
         → ((c : ℕ) → c < count → number c ≢ k)
         → (n : List (List ℕ)) × Stored M (number a) k n
+
+-- each pair that has a map in M and had none in L, once
+pub record AreNewPairs (L M : Lattice) (ps : List (ℕ × ℕ)) : Type 0 where
+  pub apart : AllPairs (λ p q. p ≢ q) ps
+  pub exactly : (i k : ℕ) → Contains ps (i, k)
+      ↔ (((m : List (List ℕ)) × Stored M i k m) × ¬ ((m : List (List ℕ)) × Stored L i k m))
