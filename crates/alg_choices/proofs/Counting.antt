@@ -33,7 +33,8 @@ same_option None None to from = refl
 
 module _ {K : Type 0} {R : K → K → Ordering} (T : IsTotalOrder R) (A : IsAntisymmetric R) where
   -- a key is another, as the order tells
-  key_or_not : (p q : K) → ((q ≡ p) × (eq_by_cmp R q p ≡ true)) ⊎ ((q ≢ p) × (eq_by_cmp R q p ≡ false))
+  key_or_not : (p q : K)
+      → ((q ≡ p) × (eq_by_cmp R q p ≡ true)) ⊎ ((q ≢ p) × (eq_by_cmp R q p ≡ false))
   key_or_not p q = ⊎_elim
       (λ e. inl (A q p (tied (R q p) e), e))
       (λ e. inr (λ f. let g : eq_by_cmp R q p ≡ true = ap (λ x. is_eq (R q x)) (sym f) ∙ ap is_eq (tied_itself T q) in cc, e))
@@ -61,8 +62,8 @@ module _ {K X : Type 0} {R : K → K → Ordering} (T : IsTotalOrder R) (A : IsA
       (λ n. let f : len (remove m p) ≡ len m - 1 = len-remove T m p ∙ ap (λ x. cond (is_some x) (len m - 1) (len m)) e in omega arith)
       (cases_eq (len m) 0)
 
-  -- **a map that has all of another, and what it has at the keys ps besides, is longer by the number
-  -- of them**
+  -- **a map that has all of another, and what it has at the keys ps besides, is longer by the
+  -- number of them**
   pub len_of_more : (ps : List K) (l m : FinMap R X)
       → ((q : K) (v : X) → get l q ≡ Some v → get m q ≡ Some v)
       → AllPairs (λ p q. p ≢ q) ps

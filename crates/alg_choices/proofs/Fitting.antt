@@ -1,5 +1,5 @@
--- A value is a candidate exactly if it is a root of the polynomial of E that agrees at enough common
--- subfields and sends what is prescribed.
+-- A value is a candidate exactly if it is a root of the polynomial of E that agrees at enough
+-- common subfields and sends what is prescribed.
 use Rattle.std.proofs.Common.{◌≡◌, ◌⊎◌, ◌↔◌, ℕ, zero, suc, ◌+◌, ◌-◌, ◌*◌, ◌<◌, ◌≤◌, List, length, ap, sym, ◌∙◌, subst, inl, inr, ⊎_elim, arith, Option, Equal, nat_cmp}
 use Rattle.std.proofs.lemmas.Bool.{cases_eq, cases_lt}
 use Rattle.std.proofs.Math.Nat.{mul-le-mul_right}
@@ -67,8 +67,10 @@ module _ {L : Lattice} (C : IsCompatible L) where
       }
 
     -- a candidate is a root of the polynomial of E
-    pub candidate_root : {sending : Option (List ℕ × List ℕ)} {v : List ℕ} → IsCandidate L E F sending v
-        → IsRoot (field_at L.rows F) (constants (field_at L.rows F) (field_at L.rows E).polynomial) v
+    pub candidate_root : {sending : Option (List ℕ × List ℕ)} {v : List ℕ}
+        → IsCandidate L E F sending v
+        → IsRoot (field_at L.rows F)
+        (constants (field_at L.rows F) (field_at L.rows E).polynomial) v
     candidate_root {v = v} c = subst (IsRoot FF (constants FF FE.polynomial)) c.generator
         (generator_image_root FE FF (finite_at E A.source) (finite_at F A.target) (embedding_by L E F v) c.embedding)
 
@@ -101,8 +103,10 @@ module _ {L : Lattice} (C : IsCompatible L) where
     -- ---- where the pair is stored already
     module _ {m : List (List ℕ)} (h : Stored L E F m) where
       -- the stored map sends the generator to the only possible candidate
-      pub stored_candidate : {sending : Option (List ℕ × List ℕ)} {v : List ℕ} → IsCandidate L E F sending v
-          → (embedding_by L E F v ≡ m) × (apply (field_at L.rows F) m (generator (field_at L.rows E)) ≡ v)
+      pub stored_candidate : {sending : Option (List ℕ × List ℕ)} {v : List ℕ}
+          → IsCandidate L E F sending v
+          → (embedding_by L E F v ≡ m)
+          × (apply (field_at L.rows F) m (generator (field_at L.rows E)) ≡ v)
       stored_candidate {v = v} c =
           let e : embedding_by L E F v ≡ m =
           sym (identity_comp FE FF (finite_at E A.source) (finite_at F A.target) (embedding_by L E F v) c.embedding)
@@ -110,11 +114,13 @@ module _ {L : Lattice} (C : IsCompatible L) where
           (e, ap (λ x. apply FF x (generator FE)) (sym e) ∙ c.generator)
 
       -- its powers are the stored map
-      pub stored_powers : embedding_by L E F (apply (field_at L.rows F) m (generator (field_at L.rows E))) ≡ m
+      pub stored_powers :
+          embedding_by L E F (apply (field_at L.rows F) m (generator (field_at L.rows E))) ≡ m
       stored_powers = sym (embedding_is_powers_of_image FE FF (finite_at E A.source) (finite_at F A.target) m (C.compatible.embedding h))
 
       -- **it is the choice if the stored map sends what is prescribed**
-      pub stored_choice : {sending : Option (List ℕ × List ℕ)} → IsSent (field_at L.rows F) m sending
+      pub stored_choice : {sending : Option (List ℕ × List ℕ)}
+          → IsSent (field_at L.rows F) m sending
           → IsChoice L E F sending (apply (field_at L.rows F) m (generator (field_at L.rows E)))
       stored_choice {sending} sent = record {
         candidate = record {
@@ -132,7 +138,8 @@ module _ {L : Lattice} (C : IsCompatible L) where
           D = C.compatible.embedding h
 
       -- and else there is none
-      pub stored_sent : {sending : Option (List ℕ × List ℕ)} {v : List ℕ} → IsCandidate L E F sending v
+      pub stored_sent : {sending : Option (List ℕ × List ℕ)} {v : List ℕ}
+          → IsCandidate L E F sending v
           → IsSent (field_at L.rows F) m sending
       stored_sent {sending} c = subst (λ x. IsSent FF x sending) (stored_candidate c).0 c.sent
 
@@ -143,6 +150,12 @@ module _ {L : Lattice} (C : IsCompatible L) where
       covered = λ c S more. let below = (C.compatible.within S.into_first).0 in
           (c, below, S, (identity_map (field_at L.rows c), C.compatible.identity c below));
     }
+
+    -- none, where the only common subfield is the prime field
+    pub none_sufficient :
+        ((c : ℕ) → IsCommonSubfield L E F c → degree_of (field_at L.rows c) ≡ 1)
+        → AreSufficient L E F (λ d. ⊥)
+    none_sufficient only = record { covered = λ c S more. absurd (more (only c S)) }
 
     -- a degree is at most that of F
     degree_small : {d : ℕ} → IsCommonSubfield L E F d

@@ -1,5 +1,5 @@
--- A program that stores links between the fields that it lists, and maps out of them, has filled the
--- lattice.
+-- A program that stores links between the fields that it lists, and maps out of them, has filled
+-- the lattice.
 use Rattle.std.proofs.Common.{◌≡◌, ℕ, ◌+◌, ◌<◌, ◌≤◌, List, length, refl, sym, ap, ◌∙◌, arith, subst, ⊎_elim, Option}
 use Rattle.std.proofs.lemmas.Bool.{cases_eq}
 use Prim.Native.Nat.{◌∣◌}
@@ -67,7 +67,8 @@ module _ {L : Lattice} {E F : ℕ} {phi : List (List ℕ)} {M : Lattice} {count 
 
   members : {i j : ℕ} {a b : List (List ℕ)} → IsMapInto L E F phi M.rows i a
       → IsMapInto L E F phi M.rows j b
-      → degree_of (field_at M.rows i) ∣ degree_of (field_at M.rows j) → (n : List (List ℕ)) × Stored M i j n
+      → degree_of (field_at M.rows i) ∣ degree_of (field_at M.rows j)
+      → (n : List (List ℕ)) × Stored M i j n
   members {i} {j} h k d =
       let (a, la, ea) = place h in
       let (b, lb, eb) = place k in

@@ -20,7 +20,8 @@ module _ {L : Lattice} {E F : ℕ} where
       ↔ (((m : List (List ℕ)) × Stored L i E m) ⊎ ((m : List (List ℕ)) × Stored L i F m))
   member_maps {i} = (to, ⊎_elim (λ (m, h). of_source h) (λ (m, h). of_target h))
     where
-      to : IsMember L E F i → ((m : List (List ℕ)) × Stored L i E m) ⊎ ((m : List (List ℕ)) × Stored L i F m)
+      to : IsMember L E F i
+          → ((m : List (List ℕ)) × Stored L i E m) ⊎ ((m : List (List ℕ)) × Stored L i F m)
       to (of_source {m} h) = inl (m, h)
       to (of_target {m} h) = inr (m, h)
 

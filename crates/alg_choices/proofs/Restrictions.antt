@@ -54,7 +54,8 @@ module _ {A : Type 0} {c : Carrier A} (P : IsPropositional c) (R : IsRing c) whe
 
       lists : (G : List (Element c))
           → evaluate c.ops (less_constant c.ops (trim c.ops (map (underlying c) G)) b) v
-          ≡ (evaluate (element_ops R) (less_constant (element_ops R) (trim (element_ops R) G) y) x).0
+          ≡ (evaluate (element_ops R)
+          (less_constant (element_ops R) (trim (element_ops R) G) y) x).0
       lists G = sym (evaluate-map (underlying_homomorphism R)
           (less_constant (element_ops R) (trim (element_ops R) G) y) x
           ∙ ap (λ w. evaluate c.ops w v)
@@ -63,7 +64,8 @@ module _ {A : Type 0} {c : Carrier A} (P : IsPropositional c) (R : IsRing c) whe
           (trim-map (underlying_homomorphism R) (y ∷ []))))
 
       at : (G : List (Element c))
-          → (evaluate c.ops (less_constant c.ops (trim c.ops (map (underlying c) G)) b) v ≡ c.ops.zero)
+          → (evaluate c.ops (less_constant c.ops (trim c.ops (map (underlying c) G)) b) v
+          ≡ c.ops.zero)
           ↔ (evaluate c.ops (map (underlying c) G) v ≡ b)
       at G = (
         λ e. sym (evaluate-map (underlying_homomorphism R) G x)
@@ -150,7 +152,8 @@ embedding_of_degree_one E F V W d m D =
 module _ (E F : Field) (V : IsFiniteField E) (W : IsFiniteField F)
     (same : E.characteristic ≡ F.characteristic) where
   -- **the map that sends the generator to v gives the value at v of a's digits as coefficients**
-  pub image_is_value : (v : List ℕ) → (field_values F).Valid v → (a : List ℕ) → (field_values E).Valid a
+  pub image_is_value : (v : List ℕ) → (field_values F).Valid v → (a : List ℕ)
+      → (field_values E).Valid a
       → apply F (map_sending E F v) a ≡ evaluate (field_values F).ops (constants F a) v
   image_is_value v vv a va = of_two_fields
       (λ E F. (v : List ℕ) → (field_values F).Valid v → (a : List ℕ) → (field_values E).Valid a

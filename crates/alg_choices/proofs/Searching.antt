@@ -57,7 +57,8 @@ module _ {L : Lattice} {E F : ℕ} where
       (same : (field_at L.rows E).characteristic ≡ (field_at L.rows F).characteristic) where
     -- a root of the polynomial of E extends what it agrees with
     extends : {v : List ℕ} {d : ℕ} {m n : List (List ℕ)}
-        → IsRoot (field_at L.rows F) (constants (field_at L.rows F) (field_at L.rows E).polynomial) v
+        → IsRoot (field_at L.rows F)
+        (constants (field_at L.rows F) (field_at L.rows E).polynomial) v
         → AgreesAt L E F v d → Stored L d E m → Stored L d F n
         → Extends (field_at L.rows E) (field_at L.rows F) m n v
     extends {v} r a h k =
@@ -90,7 +91,8 @@ module _ {L : Lattice} {E F : ℕ} where
             → Selects L E F needed (i + 1) None k
         selects_common {m} {n} {h} {k} need x y H both = record { exactly = λ w. (to w, from w) }
           where
-            to : (w : List ℕ) → IsRoot (field_at L.rows F) k w → Fits L E F (Passed L E F needed (i + 1)) None w
+            to : (w : List ℕ) → IsRoot (field_at L.rows F) k w
+                → Fits L E F (Passed L E F needed (i + 1)) None w
             to w r =
                 let (a, b) = (both w).0 r in
                 let f = (G.exactly w).0 a in
@@ -103,7 +105,8 @@ module _ {L : Lattice} {E F : ℕ} where
                   sent = tt;
                 }
 
-            from : (w : List ℕ) → Fits L E F (Passed L E F needed (i + 1)) None w → IsRoot (field_at L.rows F) k w
+            from : (w : List ℕ) → Fits L E F (Passed L E F needed (i + 1)) None w
+                → IsRoot (field_at L.rows F) k w
             from w f = (both w).1 (
               (G.exactly w).1 (record { root = f.root; agrees = λ d (l, z). f.agrees d (omega arith, z); sent = tt }),
               (f.root.0, (H.exactly w f.root.0).1 (extends f.root (f.agrees i (omega arith, need)) x y)),
@@ -177,7 +180,8 @@ module _ {L : Lattice} {E F : ℕ} where
       )
         where
           to : (sending : Option (List ℕ × List ℕ)) → AreGiven L E F sending
-              → MatchOption sending (Unit {0}) (λ s. IsRoot (field_at L.rows F) (prescription (field_at L.rows F) s.0 s.1) v)
+              → MatchOption sending (Unit {0})
+              (λ s. IsRoot (field_at L.rows F) (prescription (field_at L.rows F) s.0 s.1) v)
               → IsSent (field_at L.rows F) (embedding_by L E F v) sending
           to None given z = tt
           to (Some (a, b)) (va, vb) (vv, e) =
@@ -186,7 +190,8 @@ module _ {L : Lattice} {E F : ℕ} where
           from : (sending : Option (List ℕ × List ℕ)) → AreGiven L E F sending
               → (field_values (field_at L.rows F)).Valid v
               → IsSent (field_at L.rows F) (embedding_by L E F v) sending
-              → MatchOption sending (Unit {0}) (λ s. IsRoot (field_at L.rows F) (prescription (field_at L.rows F) s.0 s.1) v)
+              → MatchOption sending (Unit {0})
+              (λ s. IsRoot (field_at L.rows F) (prescription (field_at L.rows F) s.0 s.1) v)
           from None given vv z = tt
           from (Some (a, b)) (va, vb) vv e =
               (vv, ((prescription_is (field_at L.rows E) (field_at L.rows F) (finite_at C E A.source) (finite_at C F A.target) same a b va vb).exactly v vv).1 e)

@@ -1,7 +1,8 @@
 -- Members and their degrees, as a program has them.
 --     AreMembersBelow L E F n is     the list of the members below n, rising
 --     AreDegrees L E F holds         holds is true of the degrees of members, and of no others
---     InClosure holds d              d is a number that holds, or a gcd of two that are in the closure
+--     InClosure holds d              d is a number that holds, or a gcd of two that are in the
+--                                    closure
 use Rattle.std.specs.Prelude.{◌≡◌, ◌↔◌, ℕ, ◌<◌, List, AllPairs, Contains}
 use Rattle.std.specs.Int.{IsGcd}
 use Rattle.alg_model.specs.Maps.{degree_of}

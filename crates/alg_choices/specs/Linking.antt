@@ -7,8 +7,8 @@
 --     IsLink F rows .. a b m         m, followed by b's map into F, is a's
 --     MayStore L F rows .. i k m     m was stored for i and k, or is a link, or a link and then a
 --                                    stored map
---     Links L F .. M                 M stores such maps alone, the old ones, one for each two places
---                                    whose degrees divide, and one for each way out of the places
+--     Links L F .. M                 M stores such maps alone, the old ones, one for each two
+--                                    places whose degrees divide, and one for each way out of them
 --     AreNewPairs L M ps             ps lists the pairs that M has a map for and L has none
 use Rattle.std.specs.Prelude.{◌≡◌, ◌≢◌, ◌↔◌, ℕ, ◌<◌, ◌≤◌, List, length, AllPairs, Contains}
 use Prim.Native.Nat.{◌∣◌}

@@ -19,8 +19,8 @@ use Rattle.alg_choices.specs.Linking.{IsListed, Links, AreNewPairs}
 abbrev pub AreAlike : Lattice → ℕ → ℕ → Type 0
 AreAlike L E F = (field_at L.rows E).characteristic ≡ (field_at L.rows F).characteristic
 
--- A value is a candidate exactly if it is a root of the polynomial of E that agrees at enough common
--- subfields and sends what is prescribed.
+-- A value is a candidate exactly if it is a root of the polynomial of E that agrees at enough
+-- common subfields and sends what is prescribed.
 abbrev pub CandidatesFit : Type 0
 CandidatesFit = (L : Lattice) (E F : ℕ) (needed : ℕ → Bool) (sending : Option (List ℕ × List ℕ))
     (v : List ℕ)
@@ -77,8 +77,8 @@ PlainRootExists = (L : Lattice) (E F : ℕ) (g : List (List ℕ))
     → ((w : List ℕ) → IsRoot (field_at L.rows F) g w ↔ IsCandidate L E F None w)
     → (v : List ℕ) × IsLeastRoot (field_at L.rows F) g v
 
--- Where the pair is stored already, the generator's image is the choice if the stored map sends what
--- is prescribed.
+-- Where the pair is stored already, the generator's image is the choice if the stored map sends
+-- what is prescribed.
 abbrev pub StoredMapIsChoice : Type 0
 StoredMapIsChoice = (L : Lattice) (E F : ℕ) (sending : Option (List ℕ × List ℕ))
     (m : List (List ℕ))

@@ -1,6 +1,6 @@
 //! What a program must show to have found the choice for an embedding in a lattice of finite
-//! fields, and to have stored all that it adds: lemmas for the crates above, and their statements as
-//! contracts of functions that do nothing.
+//! fields, and to have stored all that it adds: lemmas for the crates above, and their statements
+//! as contracts of functions that do nothing.
 #![tactic(auto)]
 
 ghost use Rattle.alg_choices.specs.Theorems.{CandidatesFit, CandidatesAreCommonZeros, AllSuffice};
