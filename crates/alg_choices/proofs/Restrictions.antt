@@ -2,7 +2,7 @@
 -- may be sent; and common roots by greatest common divisors.
 use Rattle.std.proofs.Common.{◌≡◌, ◌↔◌, ℕ, List, [], ◌∷◌, map, refl, ap, ap₂, sym, ◌∙◌, subst, All}
 use Rattle.std.proofs.lemmas.List.Elements.{All-cons, All-nil}
-use Rattle.alg_model.specs.Coefficients.{Carrier, residues, IsPrime}
+use Rattle.alg_model.specs.Coefficients.{Carrier, mod_ops, residues, IsPrime}
 use Rattle.alg_model.specs.Polynomials.{trim, poly_negative, poly_difference, evaluate}
 use Rattle.alg_model.specs.Factors.{IsPolynomial, IsGreatestCommonDivisor}
 use Rattle.alg_model.specs.Fields.{IsRing, IsField}
@@ -14,12 +14,13 @@ use Rattle.alg_rings.proofs.Rings
 use Rattle.alg_rings.proofs.Evaluation
 use Rattle.alg_rings.proofs.Homomorphisms.{evaluate-map, trim-map, poly_difference-map}
 use Rattle.alg_rings.proofs.Elements.{Element, underlying, element_ops, element_laws, underlying_injective, underlying_homomorphism, elements_are, underlying_valid, on_valid}
-use Rattle.alg_rings.proofs.CarrierPolynomials.{trimmed_from_leading}
+use Rattle.alg_rings.proofs.CarrierPolynomials.{trimmed_from_leading, trimmed_elements}
+use Rattle.alg_rings.proofs.ResidueFields.{prime_residues_field, residues_propositional}
 use Rattle.alg_rings.proofs.Divisors.{divides_transitive}
 use Rattle.alg_fields.specs.Fixed.{less_constant}
 use Rattle.alg_fields.proofs.Roots.{linear}
 use Rattle.alg_fields.proofs.OnCarriers.{root_iff_divides}
-use Rattle.alg_galois.proofs.Fields.{IsModulus, modulus_of, field_of, map_map, field_is, of_residue, propositional}
+use Rattle.alg_galois.proofs.Fields.{IsModulus, modulus_of, field_of, map_map, field_is, of_residue, of_residue_homomorphism, propositional}
 use Rattle.alg_galois.proofs.FieldEmbeddings.{digits_of, apply_powers}
 use Rattle.alg_galois.proofs.Embeddings.{of_two_fields, embedding_is_powers_of_image}
 use Rattle.alg_choices.specs.Restrictions.{prescription, IsPrescription}
@@ -143,6 +144,34 @@ module _ (p : ℕ) (h : IsPrime p) (f : List ℕ) (M : IsModulus p f) (g : List 
       (map_map (underlying (field_values (field_of p g))) (of_residue p h g N) (constant (field_of p g)) (underlying (residues p)) (λ b. refl) G)
       (underlying_valid (field_values (field_of p g)) (map (of_residue p h g N) G)))
 
+  constants_are_polynomials : (k : List ℕ) → IsPolynomial (residues p) k
+      → IsPolynomial (field_values (field_of p g)) (constants (field_of p g) k)
+  constants_are_polynomials k w = (
+    constants_are_values k w.0,
+    on_valid (residues p)
+        (λ k. trim (mod_ops p) k ≡ k
+        → trim (field_values (field_of p g)).ops (constants (field_of p g) k) ≡ constants (field_of p g) k)
+        at k w.0 w.1,
+  )
+    where
+      at : (G : List (Element (residues p)))
+          → trim (mod_ops p) (map (underlying (residues p)) G) ≡ map (underlying (residues p)) G
+          → trim (field_values (field_of p g)).ops
+          (constants (field_of p g) (map (underlying (residues p)) G))
+          ≡ constants (field_of p g) (map (underlying (residues p)) G)
+      at G t =
+          let same : map (underlying (field_values (field_of p g))) (map (of_residue p h g N) G)
+          ≡ constants (field_of p g) (map (underlying (residues p)) G) =
+          map_map (underlying (field_values (field_of p g))) (of_residue p h g N) (constant (field_of p g))
+          (underlying (residues p)) (λ b. refl) G in
+          ap (trim (field_values (field_of p g)).ops) (sym same)
+          ∙ sym (trim-map (underlying_homomorphism (field_is p h g N).ring) (map (of_residue p h g N) G))
+          ∙ ap (map (underlying (field_values (field_of p g))))
+          (sym (trim-map (of_residue_homomorphism p h g N) G)
+          ∙ ap (map (of_residue p h g N))
+          (trimmed_elements (residues_propositional p) (prime_residues_field p h).ring G t))
+          ∙ same
+
 -- the map of a field of degree 1 sends one to one, and there is no other
 pub embedding_of_degree_one : (E F : Field) → IsFiniteField E → IsFiniteField F → degree_of E ≡ 1
     → (m : List (List ℕ)) → IsEmbedding E F m → m ≡ (field_values F).ops.one ∷ []
@@ -177,3 +206,11 @@ module _ (E F : Field) (V : IsFiniteField E) (W : IsFiniteField F)
         (constants F a) (constants_valid a va) b v vb vv in
         (λ e. value ∙ zeros.0 e, λ e. zeros.1 (sym value ∙ e));
   }
+
+  -- **the polynomial of E is one over F**
+  pub source_polynomial : IsPolynomial (field_values F) (constants F E.polynomial)
+  source_polynomial = of_two_fields
+      (λ E F. IsPolynomial (residues E.characteristic) E.polynomial
+      → IsPolynomial (field_values F) (constants F E.polynomial))
+      (λ p h f M g N w. constants_are_polynomials p h f M g N f w) E F V W same
+      V.irreducible.polynomial
