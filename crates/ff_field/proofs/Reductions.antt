@@ -54,7 +54,7 @@ module _ {A : Type 0} {c : Carrier A} (P : IsPropositional c) (R : IsRing c) whe
   power_valid a v (suc n) = R.mul_valid (power c.ops a n) a (power_valid a v n) v
 
   -- ---- sums and products with one member more
-  sum_all_valid : (xs : List A) → All c.Valid xs → c.Valid (sum_all c.ops xs)
+  pub sum_all_valid : (xs : List A) → All c.Valid xs → c.Valid (sum_all c.ops xs)
   sum_all_valid [] v = R.zero_valid
   sum_all_valid (x ∷ xs) v =
       R.add_valid x (sum_all c.ops xs) (All-head c.Valid x xs v)
@@ -88,7 +88,7 @@ module _ {A : Type 0} {c : Carrier A} (P : IsPropositional c) (R : IsRing c) whe
       → conjugates c.ops q (n + 1) a ≡ conjugates c.ops q n a ++ power c.ops a (q ^ n) ∷ []
   conjugates_more q n a = map-range_with_len_more (λ i. power c.ops a (q ^ i)) 0 n n (omega arith)
 
-  conjugates_valid : (q n : ℕ) (a : A) → c.Valid a → All c.Valid (conjugates c.ops q n a)
+  pub conjugates_valid : (q n : ℕ) (a : A) → c.Valid a → All c.Valid (conjugates c.ops q n a)
   conjugates_valid q zero a v = All-nil c.Valid
   conjugates_valid q (suc n) a v =
       let more : suc n ≡ n + 1 = omega arith in

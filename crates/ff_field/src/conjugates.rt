@@ -3,19 +3,22 @@ ghost use Rattle.std.specs.Prelude.{◌≡◌, ◌<◌};
 ghost use Rattle.alg_model.specs.Maps.{field_values, constant};
 ghost use Rattle.alg_model.specs.Conjugates.{trace, norm};
 
+use crate::traces::scalar_product;
 use crate::{Field, Value};
 
 impl Field {
     /// The trace of `a`: the sum of its conjugates `a, a^p, a^(p^2), ..`, as many as the degree. It
     /// is a constant, given as a residue.
+    ///
+    /// It keeps sums and multiples by residues, so that it is the scalar product of the digits with
+    /// the traces of 1, x, x^2, .., which the field keeps.
     pub fn trace(&self, a: &Value) -> u8
         requires { (field_values self.now).Valid a.now }
         ensures value { constant self.now result ≡ trace self.now a.now }
         ensures residue { result < self.now.characteristic }
     {
         let _degree = self.degree();
-        let sum = self.sum_of_conjugates(a);
-        sum.digits()[0]
+        scalar_product(self.prime(), a.digits(), self.traces())
     }
 
     /// The norm of `a`: the product of its conjugates. It is a constant, given as a residue.
@@ -27,22 +30,6 @@ impl Field {
         let _degree = self.degree();
         let product = self.product_of_conjugates(a);
         product.digits()[0]
-    }
-
-    // The sum of the conjugates.
-    fn sum_of_conjugates(&self, a: &Value) -> Value
-        requires { (field_values self.now).Valid a.now }
-        ensures value { result ≡ trace self.now a.now }
-        ensures valid { (field_values self.now).Valid result }
-    {
-        let _prime = self.prime();
-        let mut sum = self.zero();
-        let mut conjugate = a.copy();
-        'conjugates: for _k in 0..self.degree() {
-            sum = self.add(&sum, &conjugate);
-            conjugate = self.frob(&conjugate);
-        }
-        sum
     }
 
     // The product of the conjugates.
