@@ -1,6 +1,6 @@
 -- The traces of 1, x, x^2, ..: rows that give lowest digits.
-use Rattle.std.proofs.Common.{◌≡◌, ℕ, zero, suc, ◌+◌, ◌-◌, ◌*◌, ◌%◌, ◌^◌, ◌<◌, ◌≤◌, List, [], length, slice_index, slice_index_or, All, refl, ap, ap₂, sym, ◌∙◌, subst, arith, pow-suc, mod-eq_of_lt}
-use native.Mathlib.Nat.{mod-mod, mul_comm, zero-mul, mul-zero, one-mul, zero-add, zero-mod, mul_assoc}
+use Rattle.std.proofs.Common.{◌≡◌, ℕ, zero, suc, ◌+◌, ◌*◌, ◌%◌, ◌^◌, ◌<◌, List, [], length, slice_index, slice_index_or, All, refl, ap, sym, ◌∙◌, arith, pow-suc}
+use native.Mathlib.Nat.{mod-mod, mul_comm, zero-mul, one-mul, zero-mod}
 use Rattle.std.proofs.lemmas.Nat.{mul-mod_first}
 use Rattle.alg_model.specs.Coefficients.{power}
 use Rattle.alg_model.specs.Maps.{Field, IsFiniteField, field_values, degree_of, constant}
@@ -13,7 +13,7 @@ use Rattle.ff_residues.specs.SumRows.{sum_below, row_sum}
 use Rattle.ff_residues.proofs.SumsBelow.{add_agree, mul_agree, sum_same, sum_agree, sum_zero, sum_both, sum_single}
 use Rattle.ff_field.specs.PrivateTables.{IsFrobenius, scalar_sum, GivesLowest, IsTraceRow}
 use Rattle.ff_field.proofs.RemainderRows.{sum_at_both}
-use Rattle.ff_field.proofs.Reductions.{power_of_power, power_valid, sum_all_valid, conjugates_valid}
+use Rattle.ff_field.proofs.Reductions.{power_of_power, sum_all_valid, conjugates_valid}
 use Rattle.ff_field.proofs.SmallFieldLaws
 use Rattle.ff_field.proofs.SmallFieldLaws.{values_field, sum_of_more, first_conjugate, lowest_digit}
 use Rattle.ff_field.proofs.FrobeniusColumns.{frobenius_by_columns, digit_reduced, powers_valid}

@@ -1,7 +1,7 @@
 -- The extended algorithm of Euclid on rows of constant width.
 use Rattle.std.proofs.Common.{◌≡◌, ◌≢◌, ℕ, ◌+◌, ◌-◌, ◌*◌, ◌%◌, ◌<◌, ◌≤◌, max, List, [], ◌∷◌, length, slice_index, take, All, refl, ap, ap₂, sym, ◌∙◌, subst, ⊎_elim, arith, mod-eq_of_lt, get_or-take}
 use Rattle.std.proofs.lemmas.Bool.{cases_lt}
-use native.Mathlib.Nat.{mod-add-mod, add-mod-mod, zero-mod}
+use native.Mathlib.Nat.{add-mod-mod}
 use Rattle.alg_model.specs.Coefficients.{mod_ops, residues, IsCharacteristic}
 use Rattle.alg_model.specs.Polynomials.{sum, trim, product, poly_sum, poly_difference, poly_product, convolution}
 use Rattle.alg_model.specs.Factors.{IsPolynomial, IsDivision, IsGreatestCommonDivisor}
@@ -21,9 +21,9 @@ use Rattle.ff_poly.specs.PrivateSums.{IsPadded}
 use Rattle.ff_poly.specs.declared.divisors.Bezout.{Bezout}
 use Rattle.ff_poly.proofs.ListPlaces.{place_cases, take_past}
 use Rattle.ff_poly.proofs.Quotients.{other_factor, negative_multiple}
-use Rattle.ff_poly.proofs.Convolutions.{convolution_below, convolution_from, convolution_past}
+use Rattle.ff_poly.proofs.Convolutions.{convolution_below, convolution_from}
 use Rattle.ff_poly.proofs.Euclid.{difference_is, gcd_step, short_room}
-use Rattle.ff_poly.proofs.EuclidRows.{row_length, row_polynomial}
+use Rattle.ff_poly.proofs.EuclidRows.{row_length}
 use Rattle.ff_poly.proofs.ExtendedEuclid.{Line, AreShort, HasPrime, first_line, second_line, start_short, next_line, next_short, IsMonicMultiple, monic_gcd, monic_identity, monic_first, monic_second, monic_g, monic_second_polynomial}
 
 -- ---- a product taken off a row

@@ -1,8 +1,7 @@
-use Rattle.std.proofs.Common.{◌≡◌, ℕ, [], ◌+◌, ◌*◌, ◌%◌, ◌<◌, length, take, slice_index, slice_index_or, slice_set, All, ap, ◌∙◌, ⊎_elim, sym, arith, length-take, get_or-take}
+use Rattle.std.proofs.Common.{◌≡◌, [], ◌*◌, ◌%◌, ◌<◌, length, take, slice_index, slice_index_or, slice_set, ap, ◌∙◌, ⊎_elim, sym, arith, length-take, get_or-take}
 use Rattle.std.proofs.lemmas.Bool.{cases_eq}
 use Rattle.std.proofs.lemmas.List.{length-set, get_or-set_same, get_or-set_other}
 use Rattle.std.proofs.lemmas.List.Elements.{All-set}
-use Rattle.ff_poly.specs.declared.TheConstants.{MAX_DEGREE}
 use Rattle.ff_residues.proofs.SumsBelow.{sum_same}
 use Rattle.ff_field.specs.PrivateTables.{scalar_sum}
 use Rattle.ff_field.proofs.traces.next_digits.Goals as goal

@@ -1,11 +1,8 @@
-use Rattle.std.proofs.Common.{◌≡◌, ℕ, [], ◌+◌, ◌%◌, ◌<◌, slice_index, slice_index_or, All, ap, ap₂, ◌∙◌, subst, arith, ◌≤◌}
+use Rattle.std.proofs.Common.{[], ◌+◌, ◌%◌, ◌<◌, slice_index, slice_index_or, All, ap, ap₂, ◌∙◌, subst, arith, ◌≤◌}
 use Rattle.std.proofs.lemmas.List.Elements.{All-from_get_or}
-use Rattle.alg_model.specs.Coefficients.{power}
-use Rattle.alg_model.specs.Maps.{field_values, degree_of}
-use Rattle.alg_model.specs.Conjugates.{conjugates, sum_all}
+use Rattle.alg_model.specs.Maps.{degree_of}
 use Rattle.ff_poly.specs.declared.TheConstants.{MAX_DEGREE}
-use Rattle.ff_residues.specs.SumRows.{IsRowOf}
-use Rattle.ff_field.specs.PrivateTables.{GivesLowest, scalar_sum}
+use Rattle.ff_field.specs.PrivateTables.{scalar_sum}
 use Rattle.ff_field.proofs.TraceRows.{unit_gives, zeros_give, next_gives, sum_gives}
 use Rattle.ff_field.proofs.traces.trace_row.Goals as goal
 

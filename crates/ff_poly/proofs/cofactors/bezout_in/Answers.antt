@@ -1,14 +1,11 @@
-use Rattle.std.proofs.Common.{◌≡◌, ◌≢◌, ℕ, ◌*◌, ◌^◌, ◌+◌, ◌-◌, ◌<◌, ◌≤◌, List, [], ◌∷◌, take, length, All, refl, ap₂, sym, ◌∙◌, subst, arith}
+use Rattle.std.proofs.Common.{◌≡◌, ◌*◌, ◌^◌, ◌<◌, ◌≤◌, [], take, sym, ◌∙◌, subst, arith}
 use Rattle.std.proofs.lemmas.List.Elements.{All-nil, All-cons}
 use Rattle.alg_model.specs.Coefficients.{mod_ops, residues}
-use Rattle.alg_model.specs.Polynomials.{trim, poly_product, poly_difference}
-use Rattle.alg_model.specs.Factors.{IsDivision, IsGreatestCommonDivisor}
-use Rattle.alg_rings.proofs.Lists.{not_nil_from_length}
-use Rattle.alg_rings.proofs.ResidueFields.{residues_propositional}
-use Rattle.ff_poly.specs.PrivateDivisors.{IsRowOf, IsNormalizer}
+use Rattle.alg_model.specs.Polynomials.{trim}
+use Rattle.alg_model.specs.Factors.{IsDivision}
 use Rattle.ff_poly.specs.declared.TheConstants.{MAX_POLY}
-use Rattle.ff_poly.proofs.EuclidRows.{row_of_polynomial, row_length}
-use Rattle.ff_poly.proofs.CofactorRows.{Remainders, line_of, remainders_start, remainders_step, remainders_room, unit_row, zero_row, last_not_zero, last_gcd, last_identity, last_first, last_second, multiple_of_line}
+use Rattle.ff_poly.proofs.EuclidRows.{row_of_polynomial}
+use Rattle.ff_poly.proofs.CofactorRows.{line_of, remainders_start, remainders_step, remainders_room, unit_row, zero_row, last_not_zero, last_gcd, last_identity, last_first, last_second, multiple_of_line}
 use Rattle.ff_poly.proofs.ExtendedEuclid.{IsMonicMultiple}
 use Rattle.ff_poly.proofs.cofactors.bezout_in.Given.{Over}
 use Rattle.ff_poly.proofs.cofactors.bezout_in.Goals as goal

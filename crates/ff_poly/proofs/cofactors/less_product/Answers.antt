@@ -1,7 +1,7 @@
-use Rattle.std.proofs.Common.{◌≡◌, ℕ, [], ◌+◌, ◌-◌, ◌*◌, ◌%◌, ◌<◌, ◌≤◌, slice_index, refl, ap, ap₂, sym, ◌∙◌, ⊎_elim, arith}
+use Rattle.std.proofs.Common.{[], ◌+◌, ◌*◌, ◌%◌, ◌<◌, slice_index, refl, ap, ap₂, sym, ◌∙◌, ⊎_elim, arith}
 use Rattle.std.proofs.lemmas.Bool.{cases_lt}
 use Rattle.std.proofs.lemmas.List.{take_all, get_or_past}
-use native.Mathlib.Nat.{zero-mod, zero-add, mod-add-mod}
+use native.Mathlib.Nat.{zero-add, mod-add-mod}
 use Rattle.alg_model.specs.Polynomials.{convolution}
 use Rattle.alg_rings.proofs.Residues.{nat_ops, product_mod}
 use Rattle.ff_residues.specs.SumRows.{residue_at}

@@ -1,16 +1,14 @@
-use Rattle.std.proofs.Common.{◌≡◌, ℕ, ◌+◌, ◌*◌, ◌^◌, ◌%◌, ◌<◌, ◌≤◌, List, length, slice_index, take, All, refl, ap, sym, ◌∙◌, arith, length-take}
-use Rattle.std.proofs.lemmas.Bool.{cases_lt}
+use Rattle.std.proofs.Common.{◌≡◌, ℕ, ◌+◌, ◌*◌, ◌^◌, ◌%◌, ◌<◌, ◌≤◌, slice_index, take, refl, ap, sym, ◌∙◌, arith, length-take}
 use Rattle.std.proofs.lemmas.List.Elements.{All-take}
 use native.Mathlib.Nat.{zero-mod}
 use Rattle.alg_model.specs.Coefficients.{mod_ops}
-use Rattle.alg_model.specs.Polynomials.{trim, product, convolution, poly_product, poly_difference}
+use Rattle.alg_model.specs.Polynomials.{trim, product}
 use Rattle.alg_rings.proofs.Lists.{convolution_to_same}
 use Rattle.alg_rings.proofs.Trims.{trim_at}
 use Rattle.alg_rings.proofs.Residues.{nat_ops, zero_test, product_mod}
 use Rattle.ff_poly.specs.declared.TheConstants.{MAX_POLY}
 use Rattle.ff_poly.proofs.Convolutions.{convolution_past}
 use Rattle.ff_poly.proofs.CofactorRows.{difference_of_rows, same_product}
-use Rattle.ff_poly.proofs.cofactors.next_factor.Given.{Over}
 use Rattle.ff_poly.proofs.cofactors.next_factor.Goals as goal
 
 pub less_product-requires : goal.less_product-requires

@@ -1,4 +1,4 @@
-use Rattle.std.proofs.Common.{◌%◌, length, ap, ap₂, ◌∙◌}
+use Rattle.std.proofs.Common.{◌%◌, length, ap₂, ◌∙◌}
 use Rattle.ff_field.specs.PrivateTables.{scalar_sum}
 use Rattle.ff_field.proofs.TraceRows.{trace_by_row}
 use Rattle.ff_field.proofs.fields.Field.trace.Goals as goal
