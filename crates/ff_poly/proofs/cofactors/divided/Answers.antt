@@ -1,9 +1,7 @@
 use Rattle.std.proofs.Common.{◌*◌, ◌^◌, ◌<◌, ◌≤◌, arith}
-use Rattle.alg_model.specs.Coefficients.{mod_ops}
-use Rattle.alg_model.specs.Polynomials.{trim}
 use Rattle.ff_poly.specs.declared.TheConstants.{MAX_POLY}
 use Rattle.ff_poly.proofs.EuclidRows.{row_length, row_past, row_leading, row_polynomial, remainder_of_rows}
-use Rattle.ff_poly.proofs.divisors.remainder.Goals as goal
+use Rattle.ff_poly.proofs.cofactors.divided.Goals as goal
 
 pub divide-requires : goal.divide-requires
 divide-requires g c =
@@ -41,12 +39,16 @@ divide-requires g c =
       ),
     )
 
+pub returns-clause-len : goal.returns-clause-len
+returns-clause-len g c = (c.divide.ensures.long, c.divide.ensures.len)
+
+pub returns-clause-short : goal.returns-clause-short
+returns-clause-short g c k l = c.divide.ensures.short k (omega (arith, c.saturating_sub.ensures))
+
 pub returns-clause-division : goal.returns-clause-division
 returns-clause-division g c =
     let p = c.args.p in
-    let above : 1 < p = omega (arith, c.number-number.ensures.small, c.number-number.ensures.value) in (
-      trim (mod_ops p) c.divide.new.quotient,
-      remainder_of_rows g.row.W p c.args.m c.args.n c.args.first.now c.args.second.now c.divide.new.quotient c.divide.new.rest
-          above c.requires.not_zero c.requires.first c.requires.second c.divide.ensures.residues c.divide.ensures.rest
-          c.divide.ensures.smaller c.divide.ensures.division,
-    )
+    let above : 1 < p = omega (arith, c.number-number.ensures.small, c.number-number.ensures.value) in
+    remainder_of_rows g.row.W p c.args.m c.args.n c.args.first.now c.args.second.now c.divide.new.quotient c.divide.new.rest
+    above c.requires.not_zero c.requires.first c.requires.second c.divide.ensures.residues c.divide.ensures.rest
+    c.divide.ensures.smaller c.divide.ensures.division
