@@ -107,7 +107,7 @@ const EXAMPLES: [Example; 3] = [
 ];
 
 // The polynomial with these coefficients, at most 8.
-fn poly_of(rt: &impl Abort, field: &Field, digits: Digits) -> PolyX
+pub(crate) fn poly_of(rt: &impl Abort, field: &Field, digits: Digits) -> PolyX
     ensures valid { IsPolynomial (field_values field.now) result }
     ensures short { length result ≤ 8 }
 {

@@ -211,7 +211,7 @@ const EXAMPLES: [Example; 6] = [
 ];
 
 // The monic polynomial with these coefficients.
-fn monic(rt: &impl Abort, p: u32, c: &[u8]) -> Poly
+pub(crate) fn monic(rt: &impl Abort, p: u32, c: &[u8]) -> Poly
     ensures monic { IsMonic (residues result.prime) result.coefficients }
     ensures not_constant { 1 < length result.coefficients }
     ensures degree { length result.coefficients ≤ MAX_DEGREE + 1 }

@@ -7,6 +7,8 @@ mod comparisons;
 #[cfg(test)]
 mod field_polynomials;
 #[cfg(test)]
+mod field_roots;
+#[cfg(test)]
 mod field_values;
 #[cfg(test)]
 mod hand_examples;
