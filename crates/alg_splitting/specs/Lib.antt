@@ -1,0 +1,2 @@
+pub mod RootLists
+pub mod PrivateSearch
