@@ -1,0 +1,5 @@
+pub mod ValueSums
+pub mod RootInsertion
+pub mod DifferentMembers
+pub mod Cofactors
+pub mod Collecting
