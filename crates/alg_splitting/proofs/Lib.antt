@@ -1,6 +1,7 @@
 pub mod ValueLaws
 pub mod PolynomialValues
 pub mod ConstantPolynomials
+pub mod DifferentLists
 pub mod SplitPolynomials
 pub mod RootDivisors
 pub mod FrobeniusModulo
