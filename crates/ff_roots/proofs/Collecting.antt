@@ -132,7 +132,7 @@ module _ (F : Field) (W : IsFiniteField F) (part trace old : List (List ℕ)) wh
         in_part v a = divisor_root F W rest part C.splits.polynomial.0 C.divides v
             ((next_root v).0 a).0
 
-        abbrev IsSame : ℕ → List ℕ → List ℕ → Type 0
+        IsSame : ℕ → List ℕ → List ℕ → Type 0
         IsSame i v w = trace_of F ((field_values F).ops.mul (power (field_values F).ops (generator F) i) v)
             ≡ trace_of F ((field_values F).ops.mul (power (field_values F).ops (generator F) i) w)
 

@@ -3,3 +3,5 @@ pub mod RootInsertion
 pub mod DifferentMembers
 pub mod Cofactors
 pub mod Collecting
+pub mod Narrowing
+pub mod PowerLists

@@ -1,5 +1,5 @@
 //! Roots of irreducible polynomials over the prime field.
-ghost use Rattle.std.specs.Prelude.{◌≡◌, ◌×◌, ◌↔◌, ◌⊎◌, ℕ, ◌+◌, ◌<◌, ◌≤◌, List, length, AllPairs, Contains};
+ghost use Rattle.std.specs.Prelude.{◌≡◌, ◌↔◌, ◌⊎◌, ℕ, ◌+◌, ◌<◌, ◌≤◌, List, length, AllPairs, Contains};
 ghost use Rattle.alg_model.specs.Coefficients.{residues};
 ghost use Rattle.alg_model.specs.Factors.{IsPolynomial, IsMonic, IsIrreducible, Divides};
 ghost use Rattle.alg_model.specs.Maps.{field_values, constants};

@@ -1,4 +1,4 @@
-use Rattle.std.proofs.Common.{◌≡◌, ◌×◌, ◌↔◌, ℕ, ◌^◌, ◌<◌, ◌≤◌, List, length}
+use Rattle.std.proofs.Common.{◌≡◌, ◌↔◌, ℕ, ◌^◌, ◌<◌, ◌≤◌, List, length}
 use Rattle.std.specs.List.{Contains}
 use Rattle.alg_model.specs.Coefficients.{power}
 use Rattle.alg_model.specs.Maps.{field_values}
