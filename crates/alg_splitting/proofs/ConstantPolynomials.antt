@@ -1,10 +1,10 @@
 -- Polynomials over the prime field as polynomials over a field F of its characteristic.
-use Rattle.std.proofs.Common.{◌≡◌, ◌≢◌, ℕ, ◌<◌, List, [], ◌∷◌, All, length, map, slice_index_or, refl, ap, ap₂, sym, ◌∙◌, subst, arith}
+use Rattle.std.proofs.Common.{◌≡◌, ℕ, ◌<◌, List, [], ◌∷◌, All, length, map, slice_index_or, refl, ap, ap₂, sym, ◌∙◌, subst, arith}
 use Rattle.std.proofs.lemmas.List.{length-map}
 use Rattle.alg_model.specs.Coefficients.{Ops, power, mod_ops, residues, IsPrime}
-use Rattle.alg_model.specs.Polynomials.{poly_sum, poly_difference, poly_product, poly_power, trim, leading, evaluate}
+use Rattle.alg_model.specs.Polynomials.{poly_sum, poly_product, poly_power, trim, leading, evaluate}
 use Rattle.alg_model.specs.Factors.{IsPolynomial, IsMonic, IsDivision, Divides}
-use Rattle.alg_model.specs.Maps.{Field, IsFiniteField, field_values, degree_of, generator, constant, constants}
+use Rattle.alg_model.specs.Maps.{Field, IsFiniteField, field_values, generator, constant, constants}
 use Rattle.alg_model.specs.Roots.{IsRoot}
 use Rattle.alg_rings.proofs.Elements.{Element, underlying, element_ops, underlying_homomorphism, elements, elements_are, on_valid, on_valid₂, underlying_valid}
 use Rattle.alg_rings.proofs.Homomorphisms.{Homomorphism, trim-map, poly_sum-map, poly_product-map, poly_power-map, leading-map, evaluate-map, power-map}
@@ -17,6 +17,7 @@ use Rattle.alg_galois.proofs.Fields.{IsModulus, modulus_of, field_of, map_map, m
 use Rattle.alg_galois.proofs.FieldEmbeddings.{composed}
 use Rattle.alg_galois.proofs.Embeddings.{of_two_fields}
 use Rattle.alg_galois.proofs.EmbeddingRoots.{root_from}
+use Rattle.alg_splitting.specs.PrivateSearch.{variable}
 
 -- ---- a field E of the same characteristic, at a root in F of its polynomial
 module _ (p : ℕ) (h : IsPrime p) (f : List ℕ) (M : IsModulus p f) (g : List ℕ)
@@ -113,6 +114,7 @@ module _ (F : Field) (W : IsFiniteField F) where
       → constant F a ≡ constant F b → a ≡ b
   constant_injective a b la lb e = ap (λ w. slice_index_or w 0 0) e
 
+  -- and a list of residues one of values
   pub constants_valid : (f : List ℕ) → All (residues F.characteristic).Valid f
       → All (field_values F).Valid (constants F f)
   constants_valid f vf = on_valid (residues F.characteristic)
@@ -157,7 +159,7 @@ module _ (F : Field) (W : IsFiniteField F) where
       ∙ ap (constant F) (leading-map below G ∙ m)
       ∙ value_homomorphism.one) f vf m
 
-  -- sums, products and powers are kept
+  -- sums are kept
   pub constants_sum : (f g : List ℕ) → All (residues F.characteristic).Valid f
       → All (residues F.characteristic).Valid g
       → constants F (poly_sum (mod_ops F.characteristic) f g)
@@ -170,6 +172,7 @@ module _ (F : Field) (W : IsFiniteField F) where
       ∙ ap₂ (poly_sum (field_values F).ops) (sym (of_elements G)) (sym (of_elements K)))
       f g vf vg
 
+  -- products
   pub constants_product : (f g : List ℕ) → All (residues F.characteristic).Valid f
       → All (residues F.characteristic).Valid g
       → constants F (poly_product (mod_ops F.characteristic) f g)
@@ -182,6 +185,7 @@ module _ (F : Field) (W : IsFiniteField F) where
       ∙ ap₂ (poly_product (field_values F).ops) (sym (of_elements G)) (sym (of_elements K)))
       f g vf vg
 
+  -- and powers
   pub constants_power : (f : List ℕ) → All (residues F.characteristic).Valid f → (n : ℕ)
       → constants F (poly_power (mod_ops F.characteristic) f n)
       ≡ poly_power (field_values F).ops (constants F f) n
@@ -192,7 +196,7 @@ module _ (F : Field) (W : IsFiniteField F) where
       ∙ poly_power-map value_homomorphism G n
       ∙ ap (λ w. poly_power (field_values F).ops w n) (sym (of_elements G))) f vf
 
-  -- **and so are divisions**
+  -- **divisions**
   pub constants_division : (f d q r : List ℕ) → IsPolynomial (residues F.characteristic) d
       → IsDivision (residues F.characteristic) f d q r
       → IsDivision (field_values F) (constants F f) (constants F d) (constants F q) (constants F r)
@@ -218,6 +222,10 @@ module _ (F : Field) (W : IsFiniteField F) where
     constants_polynomial d.0 d.1,
     sym (constants_product d.0 g d.1.0 vg.0) ∙ ap (constants F) d.2,
   )
+
+  -- y is y
+  pub constants_variable : constants F (0 ∷ 1 ∷ []) ≡ variable F
+  constants_variable = ap₂ (λ b d. b ∷ d ∷ []) value_homomorphism.zero value_homomorphism.one
 
   -- ---- a field E of the same characteristic, at a root v in F of its polynomial
   module _ (E : Field) (V : IsFiniteField E) (e : E.characteristic ≡ F.characteristic)

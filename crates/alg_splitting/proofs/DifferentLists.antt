@@ -1,5 +1,5 @@
 -- Lists of different members: those that pass a test and those that fail, and lists within lists.
-use Rattle.std.proofs.Common.{◌≡◌, ◌≢◌, ◌⊎◌, ⊎_elim, inl, inr, ℕ, zero, suc, ◌+◌, ◌-◌, ◌<◌, ◌≤◌, List, [], ◌∷◌, length, slice_index_or, AllPairs, All, Bool, true, false, refl, ap, sym, ◌∙◌, arith}
+use Rattle.std.proofs.Common.{◌≡◌, ◌≢◌, ⊎_elim, ℕ, suc, ◌+◌, ◌-◌, ◌<◌, ◌≤◌, List, [], ◌∷◌, length, slice_index_or, AllPairs, All, Bool, refl, ap, sym, ◌∙◌, arith}
 use Rattle.std.specs.List.{Contains, filter, remove}
 use Rattle.std.specs.Prelude.{not}
 use Rattle.std.proofs.lemmas.Bool.{cases_Bool, cases_lt, cases_eq}
@@ -20,6 +20,7 @@ pub first_differs : {X : Type 0} (x : X) (xs : List X) → AllPairs (λ a b. a �
     → All (λ y. x ≢ y) xs
 first_differs x xs d k e l = d 0 (suc k) e (omega arith) (omega arith)
 
+-- and the rest are different
 pub rest_differs : {X : Type 0} (x : X) (xs : List X) → AllPairs (λ a b. a ≢ b) (x ∷ xs)
     → AllPairs (λ a b. a ≢ b) xs
 rest_differs x xs d i j e l k = d (suc i) (suc j) e (omega arith) (omega arith)

@@ -1,20 +1,24 @@
 -- The values of sums, products and powers of polynomials, over the elements of any ring.
-use Rattle.std.proofs.Common.{◌≡◌, ℕ, zero, suc, List, [], ◌∷◌, map, All, length, slice_index_or, refl, ap, ap₂, sym, ◌∙◌, subst}
+use Rattle.std.proofs.Common.{◌≡◌, ℕ, zero, suc, ◌*◌, ◌<◌, List, [], ◌∷◌, map, All, length, slice_index_or, refl, ap, ap₂, sym, ◌∙◌, arith}
+use Rattle.std.proofs.Math.Nat.{mul_comm}
 use Rattle.std.proofs.lemmas.List.{length-map}
-use Rattle.alg_model.specs.Coefficients.{Ops, Carrier, power}
+use Rattle.std.proofs.lemmas.List.Elements.{All-nil}
+use Rattle.alg_model.specs.Coefficients.{Ops, Carrier, power, times, IsPrime}
 use Rattle.alg_model.specs.Polynomials.{sum, scale, product, trim, poly_sum, poly_negative, poly_difference, poly_product, poly_power, evaluate}
 use Rattle.alg_model.specs.Factors.{IsDivision, Divides}
 use Rattle.alg_model.specs.Fields.{IsRing}
 use Rattle.alg_rings.specs.Laws.{IsPropositional, RingLaws}
 use Rattle.alg_rings.proofs.Rings
 use Rattle.alg_rings.proofs.Powers
-use Rattle.alg_rings.proofs.Folds.{fold, fold_same, fold-map, sums_kept}
-use Rattle.alg_rings.proofs.Elements.{Element, underlying, on_valid, on_valid₂, on_elements}
+use Rattle.alg_rings.proofs.Folds.{Keeps, fold, fold_same, fold-map, sums_kept}
+use Rattle.alg_rings.proofs.Elements.{Element, element_ops, underlying, on_valid, on_valid₂, on_elements}
 use Rattle.alg_rings.proofs.Homomorphisms.{evaluate-map, trim-map, sum-map, scale-map, negatives-map, product-map, poly_power-map, power-map, place-map}
 use Rattle.alg_rings.proofs.Validity.{sum_valid, negatives_valid, product_valid, trim_valid, value_at_valid}
 use Rattle.alg_rings.proofs.Evaluation
+use Rattle.alg_fields.proofs.Frobenius
 use Rattle.alg_linear.specs.PrivateGrids.{total}
-use Rattle.alg_linear.proofs.Sums.{total_scale, total_same}
+use Rattle.alg_linear.proofs.Sums.{total_scale, total_same, total_last}
+use Rattle.alg_splitting.specs.PrivateSearch.{poly_total}
 
 -- ---- where each member is an element
 module _ {A : Type 0} {o : Ops A} (L : RingLaws o) (a : A) where
@@ -39,6 +43,34 @@ module _ {A : Type 0} {o : Ops A} (L : RingLaws o) (a : A) where
     where
       turn : (x y z : A) → o.mul x (o.mul y z) ≡ o.mul y (o.mul z x)
       turn x y z = L.mul_comm x (o.mul y z) ∙ L.mul_assoc y z x
+
+-- **in characteristic p: the power p of a value is the sum of the coefficients' powers p times the
+-- powers of a^p**
+pub power_of_value : {A : Type 0} {o : Ops A} (L : RingLaws o) (p : ℕ) → IsPrime p
+    → times o p o.one ≡ o.zero → (f : List A) (a : A)
+    → power o (evaluate o f a) p ≡ total o (length f)
+    (λ j. o.mul (power o (slice_index_or f j o.zero) p) (power o a (p * j)))
+power_of_value {A} {o} L p prime characteristic f a =
+    ap (λ w. power o w p) (value_by_places_of L a f)
+    ∙ fold-map powers_kept (length f) _
+    ∙ total_same o (length f) _ _ (λ j l.
+    Powers.power_product L (slice_index_or f j o.zero) (power o a j) p
+    ∙ ap (o.mul (power o (slice_index_or f j o.zero) p))
+    (Powers.power_power L a j p ∙ ap (power o a) (mul_comm j p)))
+  where
+    powers_kept : Keeps (λ b. power o b p) o.zero o.add o.zero o.add
+    powers_kept = record {
+      unit = Frobenius.power_of_zero L p prime characteristic;
+      both = Frobenius.power_of_sum L p prime characteristic;
+    }
+
+-- a sum of many is valid
+pub total_valid : {A : Type 0} {c : Carrier A} (R : IsRing c) (n : ℕ) (f : ℕ → List A)
+    → ((k : ℕ) → k < n → All c.Valid (f k)) → All c.Valid (poly_total c.ops n f)
+total_valid {c = c} R zero f vf = All-nil c.Valid
+total_valid {c = c} R (suc n) f vf = trim_valid R (sum c.ops (poly_total c.ops n f) (f n))
+    (sum_valid R (poly_total c.ops n f) (f n) (total_valid R n f (λ k l. vf k (omega arith)))
+    (vf n (omega arith)))
 
 module _ {A : Type 0} {c : Carrier A} (P : IsPropositional c) (R : IsRing c) (v : A)
     (vv : c.Valid v) where
@@ -68,8 +100,10 @@ module _ {A : Type 0} {c : Carrier A} (P : IsPropositional c) (R : IsRing c) (v 
   value_of_raw_sum : (f g : List A) → All c.Valid f → All c.Valid g
       → evaluate c.ops (sum c.ops f g) v ≡ c.ops.add (evaluate c.ops f v) (evaluate c.ops g v)
   value_of_raw_sum = on_valid₂ c
-      (λ f g. evaluate c.ops (sum c.ops f g) v ≡ c.ops.add (evaluate c.ops f v) (evaluate c.ops g v))
-      (λ F G. ap (λ w. evaluate c.ops w v) (sym (sum-map H F G)) ∙ sym (evaluate-map H (sum E F G) a)
+      (λ f g. evaluate c.ops (sum c.ops f g) v
+      ≡ c.ops.add (evaluate c.ops f v) (evaluate c.ops g v))
+      (λ F G. ap (λ w. evaluate c.ops w v) (sym (sum-map H F G))
+      ∙ sym (evaluate-map H (sum E F G) a)
       ∙ ap (underlying c) (Evaluation.value_of_sum L F G a)
       ∙ ap₂ c.ops.add (evaluate-map H F a) (evaluate-map H G a))
 
@@ -146,6 +180,18 @@ module _ {A : Type 0} {c : Carrier A} (P : IsPropositional c) (R : IsRing c) (v 
       ∙ ap (λ n. fold c.ops.zero c.ops.add n
       (λ j. c.ops.mul (slice_index_or (map (underlying c) F) j c.ops.zero) (power c.ops v j)))
       (sym (length-map F (underlying c))))
+
+  -- the value of a sum of many
+  pub value_of_total : (n : ℕ) (f : ℕ → List A) → ((k : ℕ) → k < n → All c.Valid (f k))
+      → (g : ℕ → Element c) → ((k : ℕ) → k < n → evaluate c.ops (f k) v ≡ (g k).0)
+      → evaluate c.ops (poly_total c.ops n f) v ≡ (total (element_ops R) n g).0
+  value_of_total zero f vf g e = refl
+  value_of_total (suc n) f vf g e =
+      value_of_sum (poly_total c.ops n f) (f n) (total_valid R n f (λ k l. vf k (omega arith)))
+      (vf n (omega arith))
+      ∙ ap₂ c.ops.add (value_of_total n f (λ k l. vf k (omega arith)) g (λ k l. e k (omega arith)))
+      (e n (omega arith))
+      ∙ ap (underlying c) (sym (total_last L n g))
 
   -- **a multiple of g is zero where g is**
   pub value_of_multiple : (g f : List A) → All c.Valid g → Divides c g f

@@ -1,5 +1,5 @@
 -- Roots of divisors, of greatest common divisors and of remainders.
-use Rattle.std.proofs.Common.{◌≡◌, ◌≢◌, ◌↔◌, ⊎_elim, ℕ, ◌<◌, List, [], ◌∷◌, length, All, ap, sym, ◌∙◌}
+use Rattle.std.proofs.Common.{◌≡◌, ◌≢◌, ◌↔◌, ⊎_elim, ℕ, List, [], ◌∷◌, All, ap, sym, ◌∙◌}
 use Rattle.std.proofs.lemmas.List.Elements.{All-cons, All-nil}
 use Rattle.alg_model.specs.Polynomials.{evaluate, poly_product, trim}
 use Rattle.alg_model.specs.Factors.{IsPolynomial, IsMonic, Divides, IsDivision, IsGreatestCommonDivisor}

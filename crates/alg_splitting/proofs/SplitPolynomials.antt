@@ -1,10 +1,10 @@
 -- Polynomials with as many roots in a finite field as their degree.
-use Rattle.std.proofs.Common.{◌≡◌, ◌≢◌, ◌↔◌, ◌⊎◌, inl, inr, ⊎_elim, ℕ, suc, ◌-◌, ◌<◌, ◌≤◌, List, [], ◌∷◌, length, slice_index_or, AllPairs, All, Bool, true, false, refl, ap, ap₂, sym, ◌∙◌, subst, arith}
+use Rattle.std.proofs.Common.{◌≡◌, ◌≢◌, ◌↔◌, ◌⊎◌, inl, inr, ⊎_elim, ℕ, ◌<◌, List, [], ◌∷◌, length, slice_index_or, AllPairs, All, Bool, true, false, refl, ap, sym, ◌∙◌, subst, arith}
 use Rattle.std.specs.List.{Contains, filter}
 use Rattle.std.specs.Prelude.{not}
 use Rattle.std.proofs.lemmas.Bool.{cases_eq}
 use Rattle.std.proofs.lemmas.List.{get_or_default}
-use Rattle.std.proofs.lemmas.List.Elements.{All-head, All-tail, All-cons, All-nil, All-filter, filter_passes, All-contains, Contains-get_or}
+use Rattle.std.proofs.lemmas.List.Elements.{All-head, All-cons, All-nil, All-filter, filter_passes, All-contains}
 use Rattle.std.proofs.lemmas.List.Kept.{AllPairs-cons, AllPairs-filter}
 use Rattle.alg_model.specs.Coefficients.{Ops}
 use Rattle.alg_model.specs.Polynomials.{evaluate, poly_product, trim}
@@ -18,7 +18,7 @@ use Rattle.alg_rings.proofs.Lists
 use Rattle.alg_rings.proofs.Decisions.{Least, search_below, lists_equal_or_not}
 use Rattle.alg_rings.proofs.Division.{zero_from_product}
 use Rattle.alg_rings.proofs.Divisors.{length_poly_product}
-use Rattle.alg_rings.proofs.Elements.{Element, element_ops, element_laws, element_field, underlying_injective}
+use Rattle.alg_rings.proofs.Elements.{Element, element_ops, element_field, underlying_injective}
 use Rattle.alg_rings.proofs.Evaluation
 use Rattle.alg_rings.proofs.CarrierPolynomials.{trimmed_from_leading}
 use Rattle.alg_rings.proofs.Validity.{value_at_valid}
@@ -36,11 +36,6 @@ contains_or_not vs v = ⊎_elim
     (λ none. inr none)
     (search_below (λ k. slice_index_or vs k v ≡ v) (length vs)
     (λ k l. lists_equal_or_not cases_eq (slice_index_or vs k v) v))
-
--- a list that isn't empty has a member
-length_positive : {X : Type 0} (f : List X) → f ≢ [] → 0 < length f
-length_positive [] n = absurd (n refl)
-length_positive (x ∷ f) n = omega arith
 
 module _ (F : Field) (W : IsFiniteField F) where
   abbrev O : Ops (Element (field_values F))
@@ -88,7 +83,8 @@ module _ (F : Field) (W : IsFiniteField F) where
 
   -- a root of a product is a root of one factor
   root_of_product : (q g : List (List ℕ)) → All (field_values F).Valid q
-      → All (field_values F).Valid g → (v : List ℕ) → IsRoot F (poly_product (field_values F).ops q g) v
+      → All (field_values F).Valid g → (v : List ℕ)
+      → IsRoot F (poly_product (field_values F).ops q g) v
       → evaluate (field_values F).ops g v ≢ (field_values F).ops.zero → IsRoot F q v
   root_of_product q g vq vg v r n = (
     r.0,
@@ -118,8 +114,8 @@ module _ (F : Field) (W : IsFiniteField F) where
           (differ (λ v. not (at_zero v))) of_q,
       length_poly_product (values_set F) (values_field F W) q g vq vg quotient_not_zero not_zero,
       ap length s,
-      length_positive g not_zero,
-      length_positive q quotient_not_zero,
+      Lists.length_not_nil g not_zero,
+      Lists.length_not_nil q quotient_not_zero,
     );
     different = differ at_zero;
     are_roots = of_g;
@@ -205,7 +201,8 @@ module _ (F : Field) (W : IsFiniteField F) where
     where
       valid : All (field_values F).Valid (a ∷ (field_values F).ops.one ∷ [])
       valid = All-cons (field_values F).Valid a ((field_values F).ops.one ∷ []) va
-          (All-cons (field_values F).Valid (field_values F).ops.one [] (values_ring F W).one_valid (All-nil (field_values F).Valid))
+          (All-cons (field_values F).Valid (field_values F).ops.one [] (values_ring F W).one_valid
+          (All-nil (field_values F).Valid))
 
   -- **a monic polynomial of degree 1 has the negative of its constant coefficient as its one root**
   pub root_of_degree_one : (h : List (List ℕ)) → IsPolynomial (field_values F) h

@@ -1,9 +1,8 @@
 -- The values of a finite field of the model as a field.
-use Rattle.alg_model.specs.Coefficients.{residues}
 use Rattle.alg_model.specs.Fields.{IsField, IsRing}
 use Rattle.alg_model.specs.Maps.{Field, IsFiniteField, field_values}
 use Rattle.alg_rings.specs.Laws.{IsPropositional}
-use Rattle.alg_rings.proofs.ResidueFields.{prime_residues_field, residues_propositional}
+use Rattle.alg_rings.proofs.ResidueFields.{residues_propositional}
 use Rattle.alg_fields.proofs.ValueFields.{values_propositional}
 use Rattle.alg_galois.proofs.Fields.{modulus_of, field_is}
 

@@ -1,19 +1,19 @@
 -- What the search for roots by traces speaks of: F is a finite field of characteristic p and degree
 -- n, polynomials are over its values.
---     Splits F h                    h isn't zero, and has as many roots in F as its degree
---     variable F                    the polynomial y
---     poly_total o n f              f 0 + .. + f (n - 1), polynomials
+--     Splits F h           h isn't zero, and has as many roots in F as its degree
+--     variable F           the polynomial y
+--     poly_total o n f     f 0 + .. + f (n - 1), polynomials
 --     AreCongruent F g a b          a and b are equal modulo g
 --     IsFrobeniusModulo F g i a     a is y^(p^i) modulo g
 --     IsFrobeniusAtRoots F g i a    the value of a at each root v of g is v^(p^i)
 --     conjugate_sum F k c           c + c^p + .., k of them
---     IsConjugateSumAtRoots F g c k a     the value of a at each root v of g is the sum of the first
---                                   k conjugates of c * v
+--     IsConjugateSumAtRoots F g c k a     the value of a at each root v of g is the sum of the
+--                                   first k conjugates of c * v
 --     IsTraceAtRoots F g c a        the value of a at each root v of g is the trace of c * v
 --     IsConstantAtRoots F g a       the value of a at each root of g is a constant
---     IsNarrowed F f k h            a divisor h of f that splits, monic and not constant, whose roots
---                                   agree in the traces of x^j times them for all j below k, where x is
---                                   the generator
+--     IsNarrowed F f k h   h is a divisor of f that splits, monic and not constant, whose roots
+--                          agree in the traces of x^j times them for all j below k, x being the
+--                          generator
 use Rattle.std.specs.Prelude.{◌≡◌, ◌≢◌, ℕ, zero, suc, ◌^◌, ◌<◌, List, [], ◌∷◌, length, All, AllPairs}
 use Rattle.alg_model.specs.Coefficients.{Ops, power}
 use Rattle.alg_model.specs.Polynomials.{evaluate, poly_sum, poly_difference, poly_power}
