@@ -5,3 +5,6 @@ pub mod Cofactors
 pub mod Collecting
 pub mod Narrowing
 pub mod PowerLists
+pub mod ConjugateMembers
+pub mod BlankValues
+pub mod CommonRoots

@@ -43,3 +43,14 @@ module _ (F : Field) (vs : List (List ℕ)) (i : ℕ) (v : List ℕ) (R : IsRisi
       λ h. (insert_contains vs i v l w).1 (⊎_elim (λ m. inr m) (λ e. inl e) h),
     );
   }
+
+-- a list with nothing in it rises
+pub nothing_rises : (F : Field) (vs : List (List ℕ)) → vs ≡ [] → IsRising F vs
+nothing_rises F vs e = record {
+  values = λ k d l. absurd (omega (arith, ap length e));
+  rising = λ i j d l m. absurd (omega (arith, ap length e));
+}
+
+-- and has no member
+pub nothing_contained : (vs : List (List ℕ)) → vs ≡ [] → (v : List ℕ) → ¬ Contains vs v
+nothing_contained vs e v m = omega (arith, m.1, ap length e)

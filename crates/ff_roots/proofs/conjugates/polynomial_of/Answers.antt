@@ -1,4 +1,5 @@
 use Rattle.std.proofs.Common.{◌≡◌, length, take, ap, sym, ◌∙◌, subst, All, arith}
+use Rattle.std.proofs.lemmas.List.{take_all}
 use Rattle.std.proofs.lemmas.List.Elements.{All-take}
 use Rattle.alg_model.specs.Coefficients.{residues}
 use Rattle.alg_model.specs.Factors.{IsPolynomial}
@@ -26,7 +27,9 @@ returns-clause-value c =
     let f = c.args.f.now.coefficients in
     let vf = subst (λ q. IsPolynomial (residues q) f) c.requires.prime
     c.coefficients-c-items.ensures.whole.polynomial in
-    let all : take c.loop-c.c-index c.coefficients-c-items.result.now ≡ f = ? in
+    let all : take c.loop-c.c-index c.coefficients-c-items.result.now ≡ f =
+    take_all c.loop-c.c-index c.coefficients-c-items.result.now (omega (arith, c.loop-c-test.false))
+    ∙ c.coefficients-c-items.ensures.value in
     c.of_values.ensures.coefficients
     ∙ ap (trim (field_values F).ops) (c.as_slice.ensures.value ∙ c.loop-c.invariant
     ∙ ap (constants F) all) ∙ (constants_polynomial F W f vf).1
