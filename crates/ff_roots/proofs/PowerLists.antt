@@ -12,7 +12,7 @@ pub no_powers : (F : Field) (g : List (List ℕ)) (ys : List (List (List ℕ))) 
     → ArePowers F g 0 ys
 no_powers F g ys e = record {
   count = ap length e;
-  polynomials = λ k l. omega arith;
+  polynomials = λ k l. absurd (omega arith);
   short = λ k l. omega arith;
   powers = λ k l. absurd (omega arith);
 }

@@ -1,4 +1,5 @@
 use Rattle.std.proofs.Common.{◌≡◌, ◌+◌, List, ℕ, ap, sym, ◌∙◌, subst, arith, add-one}
+use Rattle.alg_model.specs.Polynomials.{poly_power}
 use Rattle.alg_model.specs.Factors.{IsDivision}
 use Rattle.alg_model.specs.Maps.{field_values, degree_of}
 use Rattle.alg_splitting.specs.PrivateSearch.{variable, IsFrobeniusModulo}
@@ -39,7 +40,9 @@ powers-preserved c =
       polynomial = D.1.remainder;
       short = D.1.smaller;
       next = rw add-one (frobenius_next F W g c.requires.polynomial i a D.0 c.powmod-next.result
-          h.polynomial h.next ?);
+          h.polynomial h.next
+          (subst (λ n. IsDivision (field_values F) (poly_power (field_values F).ops a n) g D.0
+          c.powmod-next.result) (c.number.ensures.value ∙ c.prime-p.ensures.value) D.1));
     }
 
 pub returns-clause-powers : goal.returns-clause-powers
