@@ -23,7 +23,7 @@ use Rattle.alg_splitting.proofs.ValueLaws.{values_set, values_field, values_ring
 use Rattle.alg_splitting.proofs.PolynomialValues.{value_of_product}
 use Rattle.alg_splitting.proofs.SplitPolynomials.{split_all, split_divisor}
 use Rattle.alg_splitting.proofs.RootDivisors.{divisor_root}
-use Rattle.ff_roots.proofs.DifferentMembers.{kept_member, different_fewer}
+use Rattle.alg_splitting.proofs.DifferentLists.{contains_rest, within_length}
 
 -- a polynomial of degree 0 that isn't zero has no roots
 pub no_root : (F : Field) → IsFiniteField F → (h : List (List ℕ)) → Splits F h → length h < 2
@@ -44,7 +44,7 @@ module _ (F : Field) (W : IsFiniteField F) (h g q r : List (List ℕ)) (S : Spli
       (sym ((divides_iff_no_remainder (values_set F) (values_field F W) h g q r vg D).0 k))
       ∙ D.identity
 
-  quotient_divides : Divides (field_values F) q h
+  pub quotient_divides : Divides (field_values F) q h
   quotient_divides = (
     g,
     vg,
@@ -85,7 +85,7 @@ module _ (F : Field) (W : IsFiniteField F) (h g q r : List (List ℕ)) (S : Spli
   -- **but of q and g none in common**
   pub cofactor_apart : (v : List ℕ) → IsRoot F q v → ¬ IsRoot F g v
   cofactor_apart v s t =
-      let fewer = different_fewer S.roots others S.different included in
+      let fewer = within_length S.roots others S.different included in
       omega (
         arith,
         fewer,
@@ -120,8 +120,8 @@ module _ (F : Field) (W : IsFiniteField F) (h g q r : List (List ℕ)) (S : Spli
           (λ u. ⊎_elim (λ e. of_divisor w (subst (IsRoot F g) (sym e) t))
           (λ n. Contains-append_right divisor_splits.roots
           (remove cofactor_splits.roots place.0) w
-          (kept_member cofactor_splits.roots place.0 w place.1 (other w n)
-          (split_all F W q cofactor_splits w u)))
+          (contains_rest cofactor_splits.roots place.0 w place.1
+          (split_all F W q cofactor_splits w u) (other w n)))
           (lists_equal_or_not cases_eq w v))
           (λ u. of_divisor w u)
           (cofactor_or_divisor w (All-contains (IsRoot F h) S.roots w S.are_roots m))

@@ -1,6 +1,5 @@
 pub mod ValueSums
 pub mod RootInsertion
-pub mod DifferentMembers
 pub mod Cofactors
 pub mod Collecting
 pub mod Narrowing
@@ -8,3 +7,4 @@ pub mod PowerLists
 pub mod ConjugateMembers
 pub mod BlankValues
 pub mod CommonRoots
+pub mod GeneralRoots

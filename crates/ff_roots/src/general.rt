@@ -93,6 +93,7 @@ fn collect(
     requires narrowed { 1 < length part.now → IsNarrowed field.now g.now k part.now }
     requires depth { k ≤ degree_of field.now }
     requires factor { factor.now ≡ power (field_values field.now).ops (generator field.now) k }
+    requires value { (field_values field.now).Valid factor.now }
     requires list { IsRising field.now list.old }
     requires new { (v : List ℕ) → IsRoot field.now part.now v → ¬ Contains list.old v }
     requires room { length list.old + length part.now ≤ MAX_DEGREE + 1 }
