@@ -1,12 +1,14 @@
 -- What of a polynomial splits: the start of the search.
-use Rattle.std.proofs.Common.{◌≡◌, ◌≢◌, ℕ, ◌<◌, List, [], ◌∷◌, length, arith}
+use Rattle.std.proofs.Common.{◌≡◌, ◌≢◌, ℕ, ◌<◌, List, [], ◌∷◌, length, slice_index_or, sym, subst, arith}
 use Rattle.alg_model.specs.Factors.{IsPolynomial, IsGreatestCommonDivisor}
 use Rattle.alg_model.specs.Maps.{Field, IsFiniteField, field_values}
 use Rattle.alg_splitting.specs.PrivateSearch.{Splits, IsNarrowed}
-use Rattle.alg_model.specs.Roots.{IsRoot}
+use Rattle.alg_model.specs.Roots.{IsRoot, IsLeastRoot}
 use Rattle.std.proofs.lemmas.List.Elements.{All-cons, All-nil}
 use Rattle.alg_splitting.proofs.SplitPolynomials.{roots_bounded}
+use Rattle.alg_splitting.specs.RootLists.{IsRootList}
 use Rattle.alg_splitting.proofs.RootDivisors.{gcd_monic}
+use Rattle.alg_splitting.proofs.RootLists.{root_list_least}
 
 -- **a part by no trace yet**
 pub first_narrowed : (F : Field) → IsFiniteField F → (g b part : List (List ℕ)) → g ≢ []
@@ -27,3 +29,10 @@ constant_no_root F W g vg n l v r =
     let one = roots_bounded F W g vg n (v ∷ []) (λ i j d h m. absurd (omega arith))
     (All-cons (IsRoot F g) v [] r (All-nil (IsRoot F g))) in
     omega (arith, one)
+
+-- **the first of the roots is the least**
+pub first_is_least : (F : Field) (g vs : List (List ℕ)) (v : List ℕ) → IsRootList F g vs
+    → 0 < length vs → v ≡ slice_index_or vs 0 v → IsLeastRoot F g v
+first_is_least F g [] v R l e = absurd (omega arith)
+first_is_least F g (x ∷ xs) v R l e =
+    subst (IsLeastRoot F g) (sym e) (root_list_least F g x xs R)

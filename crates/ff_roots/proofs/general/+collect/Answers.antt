@@ -63,7 +63,44 @@ returns-then-coefficients-lt2 t c =
     c.requires.splits
 
 pub collect-requires : goal.collect-requires
-collect-requires t c = (?, ?)
+collect-requires t c =
+    let F = c.args.field.now in
+    let W = c.prime-prime.ensures.whole.finite in
+    let o = (field_values F).ops in
+    let g = c.args.g.now in
+    let part = c.args.part.now in
+    let k = c.args.k in
+    let trace = c.divrem-trace.result.1 in
+    let next = c.part_at-next.result in
+    let len = ap length c.coefficients-len.ensures.value in
+    let N = c.requires.narrowed (omega (arith, c.if-len-lt2.false, len)) in
+    let deep : k < degree_of F = not_at_end F W g part k N
+    (omega (arith, c.if-len-lt2.false, c.if-len-eq2.false, len)) c.requires.depth in
+    let s : IsTraceAtRoots F part (power o (generator F) k) trace =
+    subst (λ a. IsTraceAtRoots F part a trace) c.requires.factor
+    (traced_rest F W g part k N c.args.factor.now c.requires.value c.trace_of.result
+    c.divrem-trace.result.0 trace c.trace_of.ensures.trace c.divrem-trace.ensures.division) in
+    let C = c.residues.invariant in
+    let below : c.residues.c < F.characteristic = omega (arith, c.residues-test.true,
+    c.number-c-end.ensures.value, c.prime.ensures.value) in
+    let vt = c.divrem-trace.ensures.division.remainder in
+    let G = c.part_at-next.ensures in
+    let old = c.args.list.now in
+    let rest = c.residues.rest in
+    let list = c.residues.list in
+    (
+      omega arith,
+      (c.requires.polynomial, (c.requires.not_constant, (c.requires.degree, (c.requires.powers,
+          (next_splits F W part trace old c.residues.c rest list C below vt next G,
+          (λ l. rw add-one (next_narrowed F W part trace old c.residues.c rest list C below vt next G g k
+          N s l), (omega (arith, deep), (rw add-one (c.mul-next_factor.ensures.value
+          ∙ ap (λ x. o.mul x c.generator.result) c.requires.factor
+          ∙ ap (o.mul (power o (generator F) k)) c.generator.ensures.value),
+          (c.mul-next_factor.ensures.valid, (C.rising,
+          (next_new F W part trace old c.residues.c rest list C below vt next G,
+          omega (arith, c.requires.room,
+          next_room F W part trace old c.residues.c rest list C below vt next G)))))))))))),
+    )
 
 pub divrem-quotient-requires-clause-not_zero : goal.divrem-quotient-requires-clause-not_zero
 divrem-quotient-requires-clause-not_zero t c =
