@@ -65,14 +65,17 @@ module _ (F : Field) (W : IsFiniteField F) (h g q r : List (List ℕ)) (S : Spli
   -- a root of h is one of q or of g
   pub cofactor_or_divisor : (v : List ℕ) → IsRoot F h v → IsRoot F q v ⊎ IsRoot F g v
   cofactor_or_divisor v s = ⊎_elim (λ z. inl (s.0, z))
-      (λ n. inr (s.0, ap (underlying (field_values F))
-      (zero_from_product (element_field (values_set F) (values_field F W))
-      (evaluate o q v, value_at_valid (values_ring F W) q v D.quotient.0 s.0)
-      (evaluate o g v, value_at_valid (values_ring F W) g v vg.0 s.0)
-      (underlying_injective (values_set F) _ _
-      (sym (value_of_product (values_set F) (values_ring F W) v s.0 q g D.quotient.0 vg.0)
-      ∙ ap (λ w. evaluate o w v) exact ∙ s.1))
-      (λ z. n (ap (underlying (field_values F)) z)))))
+      (λ n. inr (
+        s.0,
+        ap (underlying (field_values F))
+            (zero_from_product (element_field (values_set F) (values_field F W))
+            (evaluate o q v, value_at_valid (values_ring F W) q v D.quotient.0 s.0)
+            (evaluate o g v, value_at_valid (values_ring F W) g v vg.0 s.0)
+            (underlying_injective (values_set F) _ _
+            (sym (value_of_product (values_set F) (values_ring F W) v s.0 q g D.quotient.0 vg.0)
+            ∙ ap (λ w. evaluate o w v) exact ∙ s.1))
+            (λ z. n (ap (underlying (field_values F)) z))),
+      ))
       (lists_equal_or_not cases_eq (evaluate o q v) o.zero)
 
   -- a root of q is one of h

@@ -70,8 +70,12 @@ module _ (F : Field) (W : IsFiniteField F) (part trace old : List (List ℕ)) wh
 
     -- there is room for them
     pub next_room : length list + length next ≤ length old + length part
-    next_room = omega (arith, C.count, length_divisor (values_set F) (values_field F W) next rest
-        G.polynomial C.splits.not_zero G.divides_first)
+    next_room = omega (
+      arith,
+      C.count,
+      length_divisor (values_set F) (values_field F W) next rest
+          G.polynomial C.splits.not_zero G.divides_first,
+    )
 
     pub collected_step : (new quotient r : List (List ℕ))
         → Collects F (IsRoot F next) (degree next) list new
@@ -93,9 +97,13 @@ module _ (F : Field) (W : IsFiniteField F) (part trace old : List (List ℕ)) wh
           ((next_root v).0 n).0)) ((N.members v).0 m);
       kept = λ v m. (N.members v).1 (inl (C.kept v m));
       rising = N.list;
-      count = omega (arith, N.count, C.count,
-          cofactor_length F W rest next quotient r C.splits G.polynomial G.divides_first D,
-          length_not_nil next next_splits.not_zero);
+      count = omega (
+        arith,
+        N.count,
+        C.count,
+        cofactor_length F W rest next quotient r C.splits G.polynomial G.divides_first D,
+        length_not_nil next next_splits.not_zero,
+      );
     }
       where
         within : (v : List ℕ) → IsRoot F quotient v → IsRoot F rest v
@@ -142,8 +150,12 @@ module _ (F : Field) (W : IsFiniteField F) (part trace old : List (List ℕ)) wh
       → Collects F (IsRoot F part) (degree part) old list
   collected_end c rest list C l S = record {
     list = C.rising;
-    count = omega (arith, C.count, length_not_nil rest C.splits.not_zero,
-        length_not_nil part S.not_zero);
+    count = omega (
+      arith,
+      C.count,
+      length_not_nil rest C.splits.not_zero,
+      length_not_nil part S.not_zero,
+    );
     members = λ v. (
       C.members v,
       λ h. ⊎_elim (C.kept v) (λ s. ⊎_elim (λ u. absurd (no_root F W rest C.splits l v u)) (λ m. m)

@@ -22,8 +22,11 @@ one_power_more F v g t list new u e h more w = (
       (λ k. let p = (h w).0 k in ((p.0.0, omega (arith, p.0.1), p.0.2), p.1))
       (λ k. ((t, omega arith, sym e ∙ sym k.0), k.1)) ((more w).0 m),
   λ p. (more w).1 (⊎_elim
-      (λ (q : p.0.0 ≡ t). inr (sym p.0.2
-      ∙ ap (λ s. power (field_values F).ops v (F.characteristic ^ s)) q ∙ sym e, p.1))
+      (λ (q : p.0.0 ≡ t). inr (
+        sym p.0.2
+            ∙ ap (λ s. power (field_values F).ops v (F.characteristic ^ s)) q ∙ sym e,
+        p.1,
+      ))
       (λ (l : p.0.0 < t). inl ((h w).1 ((p.0.0, l, p.0.2), p.1)))
       (eq-or-lt_of_le (let m : p.0.0 ≤ t = omega (arith, p.0.1) in m))),
 )
@@ -47,9 +50,11 @@ module _ (E F : Field) (V : IsFiniteField E) (W : IsFiniteField F)
   pub all_powers : (list : List (List ℕ)) → HasPowers F v g (degree_of E) list → (w : List ℕ)
       → Contains list w ↔ (IsRoot F (constants F E.polynomial) w × IsRoot F g w)
   all_powers list h w = (
-    λ m. let p = (h w).0 m in (subst (IsRoot F (constants F E.polynomial)) p.0.2
-        (powers_are_roots F W E.polynomial
-        (subst (λ q. IsPolynomial (residues q) E.polynomial) e V.irreducible.polynomial) v r p.0.0),
-        p.1),
+    λ m. let p = (h w).0 m in (
+      subst (IsRoot F (constants F E.polynomial)) p.0.2
+          (powers_are_roots F W E.polynomial
+          (subst (λ q. IsPolynomial (residues q) E.polynomial) e V.irreducible.polynomial) v r p.0.0),
+      p.1,
+    ),
     λ p. (h w).1 (roots_are_powers E F V W e v w r p.0, p.1),
   )

@@ -61,7 +61,12 @@ pub(crate) fn trace_of(field: &Field, powers: &[PolyX], g: &PolyX, factor: &Valu
     let mut places = zeros(field, g.coefficients().len() - 1);
     let mut multiple = factor.copy();
     'conjugates: for i in 0..powers.len() {
-        add_multiples(field, places.as_mut_slice(), &multiple, powers[i].coefficients());
+        add_multiples(
+            field,
+            places.as_mut_slice(),
+            &multiple,
+            powers[i].coefficients(),
+        );
         multiple = field.frob(&multiple);
     }
     PolyX::of_values(field, places.as_slice())

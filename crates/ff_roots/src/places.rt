@@ -20,12 +20,7 @@ pub(crate) fn zeros(field: &Field, n: usize) -> ArrayVec<Value, MAX_DEGREE>
 }
 
 // Adds the multiples of a value by residues to places.
-pub(crate) fn add_residue_multiples(
-    field: &Field,
-    places: &mut [Value],
-    v: &Value,
-    residues: &[u8],
-)
+pub(crate) fn add_residue_multiples(field: &Field, places: &mut [Value], v: &Value, residues: &[u8])
     requires places { All (field_values field.now).Valid places.old }
     requires value { (field_values field.now).Valid v.now }
     requires residues { All (λ x. x < field.now.characteristic) residues.now }

@@ -22,8 +22,13 @@ conjugates-init c =
     let n = length c.coefficients.result.now - 1 in
     let places = c.zeros-places.ensures in
     record {
-      len = omega (arith, ap length places, length-replicate n (field_values F).ops.zero,
-          ap length c.coefficients.ensures.value, c.requires.not_constant);
+      len = omega (
+        arith,
+        ap length places,
+        length-replicate n (field_values F).ops.zero,
+        ap length c.coefficients.ensures.value,
+        c.requires.not_constant,
+      );
       values = subst (All (field_values F).Valid) (sym places) (blank_valid F W n);
       multiple = c.copy-multiple.ensures ∙ sym (first_conjugate F W c.args.factor.now c.requires.factor);
       multiple_valid = subst (field_values F).Valid (sym c.copy-multiple.ensures) c.requires.factor;
@@ -78,8 +83,13 @@ conjugates-preserved c =
     (frobenius_at_roots F W g c.requires.polynomial i (slice_index_or powers i [])
     (c.requires.powers.polynomials i below) (c.requires.powers.powers i below)) in
     record {
-      len = omega (arith, ap length whole, c.add_multiples.ensures.len,
-          ap length c.as_mut_slice.ensures.value, h.len);
+      len = omega (
+        arith,
+        ap length whole,
+        c.add_multiples.ensures.len,
+        ap length c.as_mut_slice.ensures.value,
+        h.len,
+      );
       values = subst (All (field_values F).Valid) (sym whole) c.add_multiples.ensures.places;
       multiple = c.frob-multiple.ensures.value ∙ ap (λ x. power o x F.characteristic) h.multiple
           ∙ next_conjugate F W i a c.requires.factor;

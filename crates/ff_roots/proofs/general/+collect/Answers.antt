@@ -81,41 +81,83 @@ collect-requires t c =
     (traced_rest F W g part k N c.args.factor.now c.requires.value c.trace_of.result
     c.divrem-trace.result.0 trace c.trace_of.ensures.trace c.divrem-trace.ensures.division) in
     let C = c.residues.invariant in
-    let below : c.residues.c < F.characteristic = omega (arith, c.residues-test.true,
-    c.number-c-end.ensures.value, c.prime.ensures.value) in
+    let below : c.residues.c < F.characteristic = omega (
+      arith,
+      c.residues-test.true,
+      c.number-c-end.ensures.value,
+      c.prime.ensures.value,
+    ) in
     let vt = c.divrem-trace.ensures.division.remainder in
     let G = c.part_at-next.ensures in
     let old = c.args.list.now in
     let rest = c.residues.rest in
-    let list = c.residues.list in
-    (
+    let list = c.residues.list in (
       omega arith,
-      (c.requires.polynomial, (c.requires.not_constant, (c.requires.degree, (c.requires.powers,
-          (next_splits F W part trace old c.residues.c rest list C below vt next G,
-          (λ l. rw add-one (next_narrowed F W part trace old c.residues.c rest list C below vt next G g k
-          N s l), (omega (arith, deep), (rw add-one (c.mul-next_factor.ensures.value
-          ∙ ap (λ x. o.mul x c.generator.result) c.requires.factor
-          ∙ ap (o.mul (power o (generator F) k)) c.generator.ensures.value),
-          (c.mul-next_factor.ensures.valid, (C.rising,
-          (next_new F W part trace old c.residues.c rest list C below vt next G,
-          omega (arith, c.requires.room,
-          next_room F W part trace old c.residues.c rest list C below vt next G)))))))))))),
+      (
+        c.requires.polynomial,
+        (
+          c.requires.not_constant,
+          (
+            c.requires.degree,
+            (
+              c.requires.powers,
+              (
+                next_splits F W part trace old c.residues.c rest list C below vt next G,
+                (
+                  λ l. rw add-one (next_narrowed F W part trace old c.residues.c rest list C below vt next G g k
+                      N s l),
+                  (
+                    omega (arith, deep),
+                    (
+                      rw add-one (c.mul-next_factor.ensures.value
+                          ∙ ap (λ x. o.mul x c.generator.result) c.requires.factor
+                          ∙ ap (o.mul (power o (generator F) k)) c.generator.ensures.value),
+                      (
+                        c.mul-next_factor.ensures.valid,
+                        (
+                          C.rising,
+                          (
+                            next_new F W part trace old c.residues.c rest list C below vt next G,
+                            omega (
+                              arith,
+                              c.requires.room,
+                              next_room F W part trace old c.residues.c rest list C below vt next G,
+                            ),
+                          ),
+                        ),
+                      ),
+                    ),
+                  ),
+                ),
+              ),
+            ),
+          ),
+        ),
+      ),
     )
 
 pub divrem-quotient-requires-clause-not_zero : goal.divrem-quotient-requires-clause-not_zero
 divrem-quotient-requires-clause-not_zero t c =
     (next_splits c.args.field.now c.prime-prime.ensures.whole.finite c.args.part.now
     c.divrem-trace.result.1 c.args.list.now c.residues.c c.residues.rest c.residues.list
-    c.residues.invariant (omega (arith, c.residues-test.true, c.number-c-end.ensures.value,
-    c.prime.ensures.value)) c.divrem-trace.ensures.division.remainder c.part_at-next.result
+    c.residues.invariant (omega (
+      arith,
+      c.residues-test.true,
+      c.number-c-end.ensures.value,
+      c.prime.ensures.value,
+    )) c.divrem-trace.ensures.division.remainder c.part_at-next.result
     c.part_at-next.ensures).not_zero
 
 pub residues-preserved : goal.residues-preserved
 residues-preserved t c = rw add-one
     (collected_step c.args.field.now c.prime-prime.ensures.whole.finite c.args.part.now
     c.divrem-trace.result.1 c.args.list.now c.residues.c c.residues.rest c.residues.list
-    c.residues.invariant (omega (arith, c.residues-test.true, c.number-c-end.ensures.value,
-    c.prime.ensures.value)) c.divrem-trace.ensures.division.remainder c.part_at-next.result
+    c.residues.invariant (omega (
+      arith,
+      c.residues-test.true,
+      c.number-c-end.ensures.value,
+      c.prime.ensures.value,
+    )) c.divrem-trace.ensures.division.remainder c.part_at-next.result
     c.part_at-next.ensures c.collect.new.list c.divrem-quotient.result.0 c.divrem-quotient.result.1
     c.collect.ensures c.divrem-quotient.ensures.division)
 
@@ -132,8 +174,12 @@ returns t c =
     c.divrem-trace.result.0 trace c.trace_of.ensures.trace c.divrem-trace.ensures.division in
     let done : length c.residues.rest < 2 =
     collected_all F W part trace c.args.list.now c.residues.c c.residues.rest c.residues.list
-    c.residues.invariant (omega (arith, c.residues-test.false, c.number-c-end.ensures.value,
-    c.prime.ensures.value))
+    c.residues.invariant (omega (
+      arith,
+      c.residues-test.false,
+      c.number-c-end.ensures.value,
+      c.prime.ensures.value,
+    ))
     (trace_constant_at_roots F W part c.args.factor.now c.requires.value trace s) in
     collected_end F W part trace c.args.list.now c.residues.c c.residues.rest c.residues.list
     c.residues.invariant done c.requires.splits
