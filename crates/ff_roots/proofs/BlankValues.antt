@@ -1,5 +1,5 @@
 -- Lists of zeros.
-use Rattle.std.proofs.Common.{◌≡◌, ℕ, List, [], replicate, All, ap, sym, ◌∙◌}
+use Rattle.std.proofs.Common.{ℕ, List, replicate, All, ap, sym, ◌∙◌}
 use Rattle.std.proofs.lemmas.List.Elements.{All-replicate}
 use Rattle.alg_model.specs.Polynomials.{evaluate}
 use Rattle.alg_model.specs.Maps.{Field, IsFiniteField, field_values}

@@ -1,14 +1,13 @@
 -- The cofactor of a divisor g of a polynomial h that has as many roots as its degree: it has the
 -- roots of h that g lacks.
-use Rattle.std.proofs.Common.{◌≡◌, ◌≢◌, ◌⊎◌, ◌↔◌, ℕ, ◌+◌, ◌-◌, ◌<◌, ◌≤◌, List, [], ◌∷◌, ◌++◌, length, slice_index_or, refl, ap, sym, ◌∙◌, subst, arith, ⊎_elim, inl, inr, length-append}
+use Rattle.std.proofs.Common.{◌≡◌, ◌≢◌, ◌⊎◌, ℕ, ◌+◌, ◌<◌, List, ◌++◌, length, slice_index_or, refl, ap, sym, ◌∙◌, subst, arith, ⊎_elim, inl, inr, length-append}
 use Rattle.std.specs.List.{Contains, remove}
 use Rattle.std.proofs.lemmas.Bool.{cases_eq}
 use Rattle.std.proofs.lemmas.List.{get_or_read_under}
 use Rattle.std.proofs.lemmas.List.Edits.{length-remove}
 use Rattle.std.proofs.lemmas.List.Elements.{All-contains, Contains-append_left, Contains-append_right}
-use Rattle.alg_model.specs.Polynomials.{trim, sum, poly_sum, poly_product, evaluate}
+use Rattle.alg_model.specs.Polynomials.{trim, poly_sum, poly_product, evaluate}
 use Rattle.alg_model.specs.Factors.{IsPolynomial, Divides, IsDivision}
-use Rattle.alg_model.specs.Values.{degree}
 use Rattle.alg_model.specs.Maps.{Field, IsFiniteField, field_values}
 use Rattle.alg_model.specs.Roots.{IsRoot}
 use Rattle.alg_rings.proofs.Decisions.{lists_equal_or_not}

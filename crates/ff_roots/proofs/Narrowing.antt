@@ -1,5 +1,5 @@
 -- One step of the search in a divisor of the polynomial of a field E.
-use Rattle.std.proofs.Common.{◌≡◌, ◌⊎◌, ◌↔◌, ℕ, ◌+◌, ◌<◌, ◌≤◌, List, length, slice_index_or, sym, ◌∙◌, subst, arith, ⊎_elim, inl, inr, eq-or-lt_of_le}
+use Rattle.std.proofs.Common.{◌≡◌, ◌↔◌, ℕ, ◌<◌, ◌≤◌, List, length, slice_index_or, sym, ◌∙◌, subst, arith, ⊎_elim, inl, inr, eq-or-lt_of_le}
 use Rattle.alg_model.specs.Factors.{IsPolynomial, Divides, IsDivision}
 use Rattle.alg_model.specs.Values.{degree}
 use Rattle.alg_model.specs.Maps.{Field, IsFiniteField, field_values, degree_of}

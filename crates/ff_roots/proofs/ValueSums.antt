@@ -3,7 +3,7 @@ use Rattle.std.proofs.Common.{◌≡◌, ℕ, ◌<◌, ◌≤◌, List, length, 
 use Rattle.std.proofs.lemmas.Bool.{cases_lt}
 use Rattle.std.proofs.lemmas.List.{get_or_past}
 use Rattle.alg_model.specs.Coefficients.{Carrier}
-use Rattle.alg_model.specs.Polynomials.{sum, scale, trim, poly_sum, evaluate}
+use Rattle.alg_model.specs.Polynomials.{sum, scale, evaluate}
 use Rattle.alg_model.specs.Fields.{IsRing}
 use Rattle.alg_rings.specs.Laws.{IsPropositional}
 use Rattle.alg_rings.proofs.Validity.{sum_valid, scale_valid, place_valid}

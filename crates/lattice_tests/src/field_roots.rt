@@ -1,10 +1,11 @@
 //! Roots of polynomials in fields: examples that were computed with PARI, some by hand, and a search
 //! through all values to compare with.
-ghost use Rattle.std.specs.Prelude.{◌≤◌, length};
+ghost use Rattle.std.specs.Prelude.{◌≢◌, ◌≤◌, [], length};
+ghost use Rattle.alg_model.specs.Factors.{IsPolynomial};
+ghost use Rattle.alg_model.specs.Maps.{field_values};
 
-use crate::field_polynomials::poly_of;
+use crate::field_polynomials::{Digits, poly_of};
 use crate::field_values::{field_of, monic, value_of};
-use arrayvec::ArrayVec;
 use ff_factor::{Verdict, judge};
 use ff_field::{Field, Value};
 use ff_polyx::PolyX;
@@ -64,6 +65,11 @@ const EXAMPLES: [Example; 5] = [
     },
 ];
 
+// y^2 + y + 1 and y^4 + y + 1.
+const QUADRATIC: Digits = &[&[1], &[1], &[1]];
+
+const QUARTIC: Digits = &[&[1], &[1], &[0], &[0], &[1]];
+
 // Whether the list has these values, in this order.
 fn has_values(list: &RootList, values: &[&[u8]]) -> bool {
     let items = list.items();
@@ -78,6 +84,17 @@ fn has_values(list: &RootList, values: &[&[u8]]) -> bool {
     true
 }
 
+// The polynomial with these coefficients, which isn't zero.
+fn some_poly(rt: &impl Abort, field: &Field, digits: Digits) -> PolyX
+    ensures valid { IsPolynomial (field_values field.now) result }
+    ensures not_zero { result ≢ [] }
+    ensures short { length result ≤ 8 }
+{
+    let f = poly_of(rt, field, digits);
+    assert!(rt; !f.is_zero());
+    f
+}
+
 #[test]
 fn roots_of_irreducible_polynomials(rt: HostRuntime) {
     for row in &EXAMPLES {
@@ -88,6 +105,7 @@ fn roots_of_irreducible_polynomials(rt: HostRuntime) {
                 let list = conjugate_roots(&field, &f);
                 let items = list.items();
                 assert_eq!(rt; items.len(), row.count);
+                assert!(rt; items.len() > 0);
                 assert_eq!(rt; items[0].digits(), row.least);
                 assert_eq!(rt; items[items.len() - 1].digits(), row.greatest);
             }
@@ -99,25 +117,21 @@ fn roots_of_irreducible_polynomials(rt: HostRuntime) {
     }
 }
 
-// y^2 + y + 1 and y^4 + y + 1.
-const QUADRATIC: &'static [&'static [u8]] = &[&[1], &[1], &[1]];
-
-const QUARTIC: &'static [&'static [u8]] = &[&[1], &[1], &[0], &[0], &[1]];
-
 #[test]
 fn roots_over_two(rt: HostRuntime) {
     let first = field_of(&rt, 2, &[1, 1, 0, 0, 1]);
-    let list = roots(&first, &poly_of(&rt, &first, QUADRATIC));
+    let list = roots(&first, &some_poly(&rt, &first, QUADRATIC));
     assert!(rt; has_values(&list, &[&[0, 1, 1, 0], &[1, 1, 1, 0]]));
     let second = field_of(&rt, 2, &[1, 0, 0, 1, 1]);
-    let list = roots(&second, &poly_of(&rt, &second, QUADRATIC));
+    let list = roots(&second, &some_poly(&rt, &second, QUADRATIC));
     assert!(rt; has_values(&list, &[&[0, 1, 0, 1], &[1, 1, 0, 1]]));
-    let list = roots(&second, &poly_of(&rt, &second, QUARTIC));
+    let list = roots(&second, &some_poly(&rt, &second, QUARTIC));
     assert!(rt; has_values(
         &list,
         &[&[0, 1, 1, 0], &[1, 1, 1, 0], &[0, 0, 1, 1], &[1, 0, 1, 1]],
     ));
     let third = field_of(&rt, 2, &[1, 1, 0, 1]);
-    assert!(rt; one_root(&third, &poly_of(&rt, &third, QUADRATIC)).is_none());
-    assert!(rt; roots(&third, &poly_of(&rt, &third, &[&[0, 1]])).items().is_empty());
+    assert!(rt; one_root(&third, &some_poly(&rt, &third, QUADRATIC)).is_none());
+    let constant = some_poly(&rt, &third, &[&[0, 1]]);
+    assert!(rt; roots(&third, &constant).items().is_empty());
 }

@@ -1,4 +1,4 @@
-use Rattle.std.proofs.Common.{◌≡◌, List, ℕ, sym, ◌∙◌, subst, ⊎_elim, inl, inr}
+use Rattle.std.proofs.Common.{◌≡◌, sym, ◌∙◌, subst, ⊎_elim, inl, inr}
 use Rattle.alg_model.specs.Maps.{field_values}
 use Rattle.alg_model.specs.Roots.{IsRoot}
 use Rattle.ff_roots.proofs.conjugates.add_common.Goals as goal

@@ -1,8 +1,8 @@
-use Rattle.std.proofs.Common.{◌≡◌, ◌%◌, List, ℕ, length, ap, ap₂, sym, ◌∙◌, subst, arith, ◌↔◌}
+use Rattle.std.proofs.Common.{◌%◌, length, ap, ap₂, sym, ◌∙◌, subst, arith, ◌↔◌}
 use Rattle.std.specs.List.{Contains}
 use Rattle.std.proofs.lemmas.Nat.Gcd.{dvd_of_mod-eq-zero, mod-eq-zero_of_dvd}
 use Prim.Native.Nat.{◌∣◌}
-use Rattle.alg_model.specs.Maps.{Field, field_values, degree_of, constants}
+use Rattle.alg_model.specs.Maps.{degree_of, constants}
 use Rattle.alg_model.specs.Roots.{IsRoot}
 use Rattle.alg_galois.proofs.EmbeddingRoots.{root_degree_divides}
 use Rattle.alg_splitting.proofs.RootDivisors.{gcd_root}

@@ -1,5 +1,4 @@
-use Rattle.std.proofs.Common.{◌≡◌, [], refl, sym, ◌∙◌, subst}
-use Rattle.alg_model.specs.Maps.{constants}
+use Rattle.std.proofs.Common.{refl, sym, subst}
 use Rattle.alg_model.specs.Roots.{IsRoot}
 use Rattle.ff_roots.proofs.conjugates.conjugate_roots.Goals as goal
 

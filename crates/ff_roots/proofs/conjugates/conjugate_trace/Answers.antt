@@ -1,4 +1,4 @@
-use Rattle.std.proofs.Common.{◌≡◌, ◌+◌, ◌^◌, List, length, replicate, ap, sym, ◌∙◌, subst, arith, add-one, All}
+use Rattle.std.proofs.Common.{◌≡◌, ◌+◌, ◌^◌, length, ap, sym, ◌∙◌, subst, arith, add-one, All}
 use Rattle.std.proofs.lemmas.List.{length-replicate}
 use Rattle.alg_model.specs.Coefficients.{power}
 use Rattle.alg_model.specs.Polynomials.{evaluate, trim}

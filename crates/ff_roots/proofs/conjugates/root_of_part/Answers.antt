@@ -1,6 +1,5 @@
-use Rattle.std.proofs.Common.{◌≡◌, ◌+◌, ◌<◌, ℕ, List, length, slice_index_or, ap, sym, ◌∙◌, subst, arith, add-one}
+use Rattle.std.proofs.Common.{◌≡◌, length, ap, sym, ◌∙◌, subst, arith, add-one}
 use Rattle.alg_model.specs.Coefficients.{power}
-use Rattle.alg_model.specs.Factors.{IsPolynomial, IsGreatestCommonDivisor}
 use Rattle.alg_model.specs.Maps.{field_values, degree_of, generator, constants}
 use Rattle.alg_model.specs.Roots.{IsRoot}
 use Rattle.alg_splitting.specs.PrivateSearch.{IsTraceAtRoots, IsNarrowed}

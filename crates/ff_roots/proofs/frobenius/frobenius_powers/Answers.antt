@@ -1,8 +1,8 @@
-use Rattle.std.proofs.Common.{◌≡◌, ◌+◌, List, ℕ, ap, sym, ◌∙◌, subst, arith, add-one}
+use Rattle.std.proofs.Common.{◌≡◌, ◌+◌, sym, ◌∙◌, subst, arith, add-one}
 use Rattle.alg_model.specs.Polynomials.{poly_power}
 use Rattle.alg_model.specs.Factors.{IsDivision}
 use Rattle.alg_model.specs.Maps.{field_values, degree_of}
-use Rattle.alg_splitting.specs.PrivateSearch.{variable, IsFrobeniusModulo}
+use Rattle.alg_splitting.specs.PrivateSearch.{variable}
 use Rattle.alg_splitting.proofs.FrobeniusModulo.{variable_polynomial, frobenius_start, frobenius_remainder, frobenius_next}
 use Rattle.ff_roots.specs.PrivatePowers.{ArePowers}
 use Rattle.ff_roots.proofs.PowerLists.{no_powers, one_more_power}

@@ -1,7 +1,6 @@
-use Rattle.std.proofs.Common.{◌≡◌, ◌+◌, ◌-◌, ◌^◌, ◌<◌, ℕ, List, [], length, slice_index_or, refl, ap, sym, ◌∙◌, subst, arith, add-one, All}
+use Rattle.std.proofs.Common.{◌≡◌, ◌+◌, ◌-◌, ◌<◌, [], length, slice_index_or, refl, ap, sym, ◌∙◌, subst, arith, add-one, All}
 use Rattle.std.proofs.lemmas.List.{length-replicate, get_or_read_under}
 use Rattle.alg_model.specs.Coefficients.{power}
-use Rattle.alg_model.specs.Factors.{IsPolynomial}
 use Rattle.alg_model.specs.Polynomials.{evaluate, trim}
 use Rattle.alg_model.specs.Maps.{field_values, degree_of}
 use Rattle.alg_splitting.specs.PrivateSearch.{IsConjugateSumAtRoots, IsFrobeniusAtRoots}

@@ -1,10 +1,7 @@
-use Rattle.std.proofs.Common.{◌≡◌, ◌+◌, ◌<◌, ◌≤◌, ℕ, List, [], length, ap, sym, ◌∙◌, subst, arith, add-one}
-use Rattle.std.specs.List.{Contains}
+use Rattle.std.proofs.Common.{◌≡◌, ◌<◌, [], length, ap, sym, ◌∙◌, subst, arith, add-one}
 use Rattle.alg_model.specs.Coefficients.{power}
-use Rattle.alg_model.specs.Values.{degree}
 use Rattle.alg_model.specs.Maps.{field_values, generator, degree_of}
-use Rattle.alg_model.specs.Roots.{IsRoot}
-use Rattle.alg_splitting.specs.PrivateSearch.{IsTraceAtRoots, IsNarrowed}
+use Rattle.alg_splitting.specs.PrivateSearch.{IsTraceAtRoots}
 use Rattle.alg_splitting.proofs.SplitPolynomials.{root_of_degree_one}
 use Rattle.alg_splitting.proofs.RootTraces.{trace_constant_at_roots}
 use Rattle.ff_roots.proofs.Collecting.{Collected, collected_start, collected_step, collected_end, collected_all, next_splits, next_new, next_room, next_narrowed}

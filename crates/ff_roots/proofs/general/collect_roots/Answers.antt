@@ -1,10 +1,9 @@
-use Rattle.std.proofs.Common.{◌≡◌, [], length, ap, ap₂, sym, ◌∙◌, subst, arith, ⊎_elim, inr}
+use Rattle.std.proofs.Common.{length, ap, ◌∙◌, subst, arith, ⊎_elim, inr}
 use Rattle.alg_model.specs.Polynomials.{poly_difference}
 use Rattle.alg_model.specs.Factors.{IsGreatestCommonDivisor}
 use Rattle.alg_model.specs.Maps.{field_values}
 use Rattle.alg_rings.proofs.Lists.{not_nil_from_length}
 use Rattle.alg_rings.proofs.Divisors.{length_divisor}
-use Rattle.alg_splitting.specs.PrivateSearch.{variable}
 use Rattle.alg_splitting.proofs.ValueLaws.{values_set, values_field}
 use Rattle.alg_splitting.proofs.FrobeniusModulo.{split_part_splits, split_part_roots}
 use Rattle.ff_roots.proofs.GeneralRoots.{first_narrowed}

@@ -1,5 +1,4 @@
 use Rattle.std.proofs.Common.{length, ap, arith}
-use Rattle.alg_model.specs.Roots.{IsRoot}
 use Rattle.ff_roots.proofs.GeneralRoots.{constant_no_root}
 use Rattle.ff_roots.proofs.RootInsertion.{nothing_rises, nothing_contained}
 use Rattle.ff_roots.proofs.general.roots.Goals as goal

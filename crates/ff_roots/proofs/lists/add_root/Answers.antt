@@ -1,4 +1,4 @@
-use Rattle.std.proofs.Common.{◌≡◌, ◌≢◌, List, ℕ, length, slice_index_or, ap, sym, ◌∙◌, subst, arith, Less}
+use Rattle.std.proofs.Common.{◌≡◌, ◌≢◌, length, slice_index_or, ap, sym, ◌∙◌, subst, arith, Less}
 use Rattle.std.specs.List.{insert}
 use Rattle.std.specs.Ordering.{nat_cmp}
 use Rattle.alg_model.specs.Factors.{order_by}

@@ -1,4 +1,4 @@
-use Rattle.std.proofs.Common.{◌≡◌, ◌+◌, ◌<◌, ◌≤◌, ℕ, List, length, ap, sym, ◌∙◌, arith, ⊎_elim, eq-or-lt_of_le}
+use Rattle.std.proofs.Common.{◌≡◌, ◌<◌, ◌≤◌, ℕ, List, length, ap, sym, ◌∙◌, arith, ⊎_elim, eq-or-lt_of_le}
 use Rattle.alg_model.specs.Maps.{constant}
 use Rattle.alg_model.specs.Roots.{IsRoot}
 use Rattle.alg_splitting.proofs.SplitPolynomials.{split_root}

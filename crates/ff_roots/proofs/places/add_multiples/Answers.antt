@@ -1,5 +1,4 @@
 use Rattle.std.proofs.Common.{arith}
-use Rattle.alg_model.specs.Maps.{field_values}
 use Rattle.ff_polyx.proofs.FieldCarriers.{propositional, ring}
 use Rattle.ff_roots.proofs.ValueSums.{value_of_added, added_so_far}
 use Rattle.ff_roots.proofs.places.add_multiples.Goals as goal

@@ -1,5 +1,5 @@
-use Rattle.std.proofs.Common.{length, arith}
-use Rattle.alg_model.specs.Maps.{field_values, constants}
+use Rattle.std.proofs.Common.{arith}
+use Rattle.alg_model.specs.Maps.{constants}
 use Rattle.alg_splitting.proofs.ConstantPolynomials.{constants_valid, length_constants}
 use Rattle.ff_polyx.proofs.FieldCarriers.{propositional, ring}
 use Rattle.ff_roots.proofs.ValueSums.{value_of_added, added_so_far}
