@@ -26,7 +26,7 @@ pub rest_differs : {X : Type 0} (x : X) (xs : List X) → AllPairs (λ a b. a �
 rest_differs x xs d i j e l k = d (suc i) (suc j) e (omega arith) (omega arith)
 
 -- a member other than the one taken out is still there
-contains_rest : {X : Type 0} (ys : List X) (k : ℕ) (y : X) → k < length ys → Contains ys y
+pub contains_rest : {X : Type 0} (ys : List X) (k : ℕ) (y : X) → k < length ys → Contains ys y
     → slice_index_or ys k y ≢ y → Contains (remove ys k) y
 contains_rest ys k y l (j, m, e) n = ⊎_elim
     (λ b. (j, omega (arith, length-remove ys k l), get_or-remove_below ys k y j b l ∙ e))

@@ -9,6 +9,8 @@ mod embeddings;
 #[cfg(test)]
 mod field_polynomials;
 #[cfg(test)]
+mod field_roots;
+#[cfg(test)]
 mod field_values;
 #[cfg(test)]
 mod hand_examples;
