@@ -7,7 +7,8 @@ ghost use Rattle.ff_residues.specs.SumRows.{residue_at};
 ghost use Rattle.ff_minpoly.specs.PrivateSpans.{AreRows, IsTable, IsReduced, IsNormal, IsSpan};
 
 use crate::MAX_ROW;
-use ff_lists::BoundedList;
+use arrayvec::ArrayVec;
+use ff_lists::{BoundedList, fixed};
 use ff_poly::{MAX_DEGREE, Prime};
 use ff_residues::Sums;
 
@@ -99,6 +100,17 @@ pub(crate) fn first_place(row: &[u8], n: usize) -> Option<usize>
         }
     }
     None
+}
+
+// The m coefficients of a row of a column of n places.
+pub(crate) fn coefficients(row: &[u8], n: usize, m: usize) -> ArrayVec<u8, MAX_DEGREE>
+    requires within { n + m ≤ length row.now }
+    requires room { m ≤ MAX_DEGREE }
+    ensures count { length result.items ≡ m }
+    ensures places { (i : ℕ) → i < m → slice_index result.items i ≡ slice_index row.now (n + i) }
+    ensures residues { (p : ℕ) → All (λ x. x < p) row.now → All (λ x. x < p) result.items }
+{
+    fixed(&row[n..n + m])
 }
 
 // Multiplies each place by the factor.

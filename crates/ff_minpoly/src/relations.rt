@@ -7,10 +7,9 @@ ghost use Rattle.ff_minpoly.specs.PrivateSpans.{AreRows, IsTable, IsSpan};
 ghost use Rattle.ff_minpoly.specs.PrivateRelations.{HasRelation, IsRelation};
 
 use crate::MAX_ROW;
-use crate::elimination::{Pivots, add_column, blank_row, first_place, insert, reduced};
+use crate::elimination::{Pivots, add_column, blank_row, coefficients, first_place, insert, reduced};
 use arrayvec::ArrayVec;
 use ff_field::{Field, Value};
-use ff_lists::fixed;
 use ff_poly::{MAX_DEGREE, Prime};
 
 // The same row N times.
@@ -91,7 +90,7 @@ fn relation_in<const W: usize>(
     for j in 0..n + 1 {
         let row = reduced(p, rows, pivots.items(), block[0].digits());
         let Some(pivot) = first_place(&row, n) else {
-            return fixed(&row[n..n + j * d]);
+            return coefficients(&row, n, j * d);
         };
         insert(p, rows, &mut pivots, &row, pivot, n + j * d);
         add_others(p, rows, &mut pivots, block, n, j * d);
