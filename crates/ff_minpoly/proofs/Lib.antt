@@ -1,2 +1,6 @@
+pub mod MinimalRelations
+pub mod PrimeRelations
 pub mod Products
+pub mod ShortPolynomials
 pub mod Spans
+pub mod ValuePlaces

@@ -3,10 +3,10 @@
 #![tactic(auto)]
 
 mod elimination;
-
+mod minimal;
 mod relations;
 
-
+pub use minimal::over_prime;
 
 // The most places that a row has: those of a column, and as many coefficients.
 pub(crate) const MAX_ROW: usize = 96;
