@@ -54,7 +54,7 @@ module _ (F : Field) (W : IsFiniteField F) (a : List ℕ) (va : (field_values F)
         fits = subst (λ q. q ≤ degree_of F) (sym (mul-one S.1.degree)) S.1.small;
         dependent = monic_dependent F W (residues p) (residues_propositional p) prime_ring
             one_not_zero (constant F) (λ x i. x) block (constant_valid F W) refl spread a va
-            S.0 S.1.valid S.1.monic S.1.vanishes S.1.degree S.1.long;
+            S.0 S.1.minimal.polynomial.0 S.1.minimal.monic S.1.minimal.vanishes S.1.degree S.1.long;
       }
 
   -- **it gives the minimal polynomial**

@@ -5,6 +5,7 @@
 --         combination of the block's products with the lower powers
 --     IsRelation K block a digits     a^r and that combination of the products with the lower
 --         powers are zero, and no lower power is such a combination
+--     IsMonicOf K digits g            g is monic, and its other coefficients have these digits
 use Rattle.std.specs.Prelude.{◌≡◌, ℕ, ◌+◌, ◌*◌, ◌/◌, ◌%◌, ◌<◌, ◌≤◌, List, [], length, All, slice_index, slice_index_or}
 use Rattle.alg_model.specs.Coefficients.{power}
 use Rattle.alg_model.specs.Maps.{Field, field_values, degree_of}
@@ -34,3 +35,14 @@ pub record IsRelation (K : Field) (block : List (List ℕ)) (a digits : List ℕ
       + combined (degree * length block) (slice_index digits) (product_place K block a) k)
       % K.characteristic ≡ 0
   pub least : (t : ℕ) → t < degree → IsDependent K block a t → ⊥
+
+-- g is monic, and the coefficients below the leading one have these digits
+pub record IsMonicOf (K : Field) (digits : List ℕ) (g : List (List ℕ)) : Type 0 where
+  pub degree : ℕ
+  pub count : length digits ≡ degree * degree_of K
+  pub long : length g ≡ degree + 1
+  pub valid : All (field_values K).Valid g
+  pub top : slice_index_or g degree (field_values K).ops.zero ≡ (field_values K).ops.one
+  pub digits_are : (j i : ℕ) → j < degree → i < degree_of K
+      → slice_index digits (j * degree_of K + i)
+      ≡ slice_index (slice_index_or g j (field_values K).ops.zero) i
