@@ -2,7 +2,7 @@ pub mod DigitValues
 pub mod MinimalRelations
 pub mod PrimeRelations
 pub mod Products
-pub mod Restrictions
+pub mod Extending
 pub mod ShortPolynomials
 pub mod Spans
 pub mod SubfieldRelations

@@ -5,8 +5,10 @@
 mod elimination;
 mod minimal;
 mod relations;
+mod restrictions;
 
-pub use minimal::over_prime;
+pub use minimal::{over, over_prime};
+pub use restrictions::restricted;
 
 // The most places that a row has: those of a column, and as many coefficients.
 pub(crate) const MAX_ROW: usize = 96;

@@ -1,22 +1,13 @@
-use Rattle.std.proofs.Common.{◌≡◌, ℕ, ◌*◌, length, ap, sym, ◌∙◌, subst}
-use Rattle.ff_minpoly.specs.PrivateRelations.{IsMonicOf}
-use Rattle.ff_minpoly.proofs.DigitValues.{first_image}
-use Rattle.ff_minpoly.proofs.SubfieldRelations.{subfield_relation_exists, subfield_relation_is_minimal}
+use Rattle.std.proofs.Common.{ap, ◌∙◌, subst}
+use Rattle.alg_model.specs.Roots.{IsMinimalOver}
 use Rattle.ff_minpoly.proofs.minimal.minimal_over.Goals as goal
-
-pub relation-digits-requires-clause-one : goal.relation-digits-requires-clause-one
-relation-digits-requires-clause-one c =
-    first_image c.args.source.now c.args.target.now c.prime-source.ensures.whole.finite c.prime-target.ensures.whole.finite
-    c.args.images.now c.requires.embedding
-
-pub relation-digits-requires-clause-dependent : goal.relation-digits-requires-clause-dependent
-relation-digits-requires-clause-dependent c =
-    subfield_relation_exists c.args.source.now c.args.target.now c.prime-source.ensures.whole.finite
-    c.prime-target.ensures.whole.finite c.args.images.now c.requires.embedding c.args.a.now c.requires.value
 
 pub returns : goal.returns
 returns c =
-    subfield_relation_is_minimal c.args.source.now c.args.target.now c.prime-source.ensures.whole.finite
-    c.prime-target.ensures.whole.finite c.args.images.now c.requires.embedding c.args.a.now c.requires.value
-    c.relation-digits.result.items c.relation-digits.ensures c.of_digits.result
-    (subst (λ l. IsMonicOf c.args.source.now l c.of_digits.result) c.as_slice.ensures.value c.of_digits.ensures)
+    let a = c.args.a.now in
+    let m = c.as_mut_slice.result.now in
+    let g = c.by_images.result in
+    subst (λ n. IsMinimalOver c.args.map.now.source c.args.map.now.target n a g)
+    (c.as_mut_slice.ensures.value ∙ c.images_of-images.ensures.images)
+    (subst (λ F. IsMinimalOver c.args.map.now.source F m a g) c.requires.target
+    (subst (λ E. IsMinimalOver E c.args.target.now m a g) c.requires.source c.by_images.ensures))

@@ -2,7 +2,8 @@
 -- take D into F. The values of F at which g is zero, its coefficients taken by t, are those v for
 -- which the map of E into F that sends x to v is an embedding that agrees with t on D.
 --     lowered b cs     the polynomial over D with the residues cs as coefficients, less b
-use Rattle.std.proofs.Common.{◌≡◌, ℕ, suc, ◌+◌, ◌*◌, ◌/◌, ◌^◌, ◌<◌, ◌≤◌, List, [], ◌∷◌, length, map, slice_index_or, All, refl, ap, ap₂, sym, ◌∙◌, subst, arith}
+use Rattle.std.proofs.Common.{◌≡◌, ◌↔◌, ℕ, suc, ◌+◌, ◌-◌, ◌*◌, ◌/◌, ◌^◌, ◌<◌, ◌≤◌, List, [], ◌∷◌, length, map, slice_index_or, All, refl, ap, ap₂, sym, ◌∙◌, subst, arith}
+use Rattle.std.proofs.lemmas.List.{length-map, get_or-map}
 use Rattle.std.proofs.lemmas.List.Elements.{All-head, All-tail, All-map}
 use Rattle.std.proofs.lemmas.Nat.Gcd.{le_of_dvd}
 use Rattle.std.proofs.Math.Nat.{mul_comm}
@@ -10,7 +11,7 @@ use Rattle.std.proofs.lemmas.Nat.{mul-le}
 use native.Mathlib.Nat.{div-le_of_le-mul}
 use Rattle.alg_model.specs.Coefficients.{Ops, Carrier, power, residues, IsPrime}
 use Rattle.alg_model.specs.Polynomials.{evaluate, trim}
-use Rattle.alg_model.specs.Factors.{IsPolynomial, Divides}
+use Rattle.alg_model.specs.Factors.{IsPolynomial, IsMonic, Divides}
 use Rattle.alg_model.specs.Fields.{IsRing, IsField}
 use Rattle.alg_model.specs.Maps.{Field, IsFiniteField, field_values, degree_of, generator, apply, comp, powers, IsEmbedding}
 use Rattle.alg_model.specs.Roots.{IsMinimalOver}
@@ -19,11 +20,14 @@ use Rattle.alg_rings.proofs.Rings
 use Rattle.alg_rings.proofs.Elements.{Element, element_ops, underlying, underlying_homomorphism, underlying_injective, underlying_lists_injective, underlying_valid, elements, elements_are}
 use Rattle.alg_rings.proofs.Homomorphisms.{Homomorphism, trim-map, evaluate-map}
 use Rattle.alg_rings.proofs.Evaluation
-use Rattle.alg_rings.proofs.CarrierPolynomials.{trim_polynomial}
+use Rattle.alg_rings.proofs.Trims.{leading_at}
+use Rattle.alg_rings.proofs.CarrierPolynomials.{trim_polynomial, trimmed_from_leading}
 use Rattle.alg_rings.proofs.ResidueFields.{prime_residues_field, residues_propositional}
 use Rattle.alg_rings.proofs.Divisibility
 use Rattle.alg_rings.proofs.Divisors.{Polynomial, polynomial_ops}
 use Rattle.alg_divisors.proofs.PolynomialFactors.{divides_from}
+use Rattle.alg_fields.proofs.OverResidues.{field_at_values}
+use Rattle.alg_fields.proofs.ValueFields.{values_propositional}
 use Rattle.alg_finite.proofs.Evaluation.{coefficients, evaluate_by, evaluate_product}
 use Rattle.alg_finite.proofs.Values.{map_twice}
 use Rattle.alg_galois.proofs.Fields.{IsModulus, field_of, modulus, propositional, field_is, ops, laws, of_residue, evaluate_value, map_map}
@@ -318,3 +322,48 @@ module _ (D E F : Field) (T : IsFiniteField D) (U : IsFiniteField E) (W : IsFini
       let least : degree_of E / degree_of D ≤ S.1.degree =
       div-le_of_le-mul (degree_of D) returns in
       omega (arith, longer, shorter, S.1.long, S.1.small, least)
+
+-- what the polynomial of the restrictions keeps
+pub record IsRestricted (D E F : Field) (s t g : List (List ℕ)) : Type 0 where
+  pub monic : IsMonic (field_values F) g
+  pub count : length g ≡ degree_of E / degree_of D + 1
+  pub roots : (v : List ℕ) → (field_values F).Valid v
+      → (evaluate (field_values F).ops g v ≡ (field_values F).ops.zero)
+      ↔ (IsEmbedding E F (powers F v (degree_of E))
+      × (apply F (powers F v (degree_of E)) (generator E) ≡ v)
+      × (comp F s (powers F v (degree_of E)) ≡ t))
+
+module _ (D E F : Field) (T : IsFiniteField D) (U : IsFiniteField E) (W : IsFiniteField F)
+    (s t : List (List ℕ)) (B : IsEmbedding D E s) (C : IsEmbedding D F t) (g : List (List ℕ))
+    (M : IsMinimalOver D E s (generator E) g) where
+  abbrev images : List (List ℕ)
+  images = map (apply F t) g
+
+  monic_images : IsMonic (field_values F) (map (apply F t) g)
+  monic_images =
+      let long = length_restricted D E F T U W s t B C g M in
+      let within : length g - 1 < length g = omega (arith, long) in
+      leading_at (field_values F).ops images
+      ∙ ap (λ n. slice_index_or images (n - 1) (field_values F).ops.zero) (length-map g (apply F t))
+      ∙ get_or-map (apply F t) g (length g - 1) (field_values D).ops.zero (field_values F).ops.zero within
+      ∙ ap (apply F t) (sym (leading_at (field_values D).ops g) ∙ M.monic) ∙ C.one
+
+  -- **the polynomial of the restrictions**
+  pub restricted_facts : (f : List (List ℕ)) → f ≡ trim (field_values F).ops (map (apply F t) g)
+      → IsRestricted D E F s t f
+  restricted_facts f is =
+      let F' = field_at_values F.characteristic W.characteristic F.polynomial W.monic W.irreducible in
+      let valid : All (field_values F).Valid images =
+      All-map (field_values F).Valid (apply F t) g
+      (λ k e l. apply_valid D F T W t C (slice_index_or g k e) (M.polynomial.0 k e l)) in
+      let same : images ≡ f =
+      sym (is ∙ trimmed_from_leading (values_propositional (residues_propositional F.characteristic) F.polynomial)
+      F'.ring images valid (λ z. F'.one_not_zero (sym monic_images ∙ z))) in
+      subst (IsRestricted D E F s t) same (record {
+        monic = monic_images;
+        count = length-map g (apply F t) ∙ length_restricted D E F T U W s t B C g M;
+        roots = λ v vv. (
+          root_restricts D E F T U W s t B C g M v vv,
+          λ h. restricted_root D E F T U W s t B C g M v h.0 h.1 h.2,
+        );
+      })
