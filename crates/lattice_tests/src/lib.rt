@@ -5,6 +5,8 @@
 #[cfg(test)]
 mod comparisons;
 #[cfg(test)]
+mod embeddings;
+#[cfg(test)]
 mod field_polynomials;
 #[cfg(test)]
 mod field_values;
