@@ -12,4 +12,6 @@ mod field_polynomials;
 mod field_values;
 #[cfg(test)]
 mod hand_examples;
+#[cfg(test)]
+mod minimal_polynomials;
 pub mod trial_division;
