@@ -1,10 +1,10 @@
 -- Columns in a table of constant width, as a matrix.
-use Rattle.std.proofs.Common.{◌≡◌, ℕ, zero, suc, ◌+◌, ◌*◌, ◌%◌, ◌<◌, ◌≤◌, List, [], ◌∷◌, ◌++◌, length, map, take, replicate, slice_set, slice_index, slice_index_or, All, ap, sym, ◌∙◌, subst, arith, get_or-take}
+use Rattle.std.proofs.Common.{◌≡◌, ℕ, ◌+◌, ◌*◌, ◌%◌, ◌<◌, ◌≤◌, List, [], ◌∷◌, ◌++◌, length, map, take, replicate, slice_set, slice_index, slice_index_or, ap, sym, ◌∙◌, subst, arith, get_or-take}
 use Rattle.std.proofs.lemmas.List.{length-map, length-take-le, length-replicate, length-set, get_or-map, get_or-replicate, map-append, take_more_set, ext_get_or}
 use Rattle.std.proofs.lemmas.List.Elements.{All-get_or, All-set, All-replicate, All-from_get_or, All-take}
 use Rattle.std.proofs.Math.Seq.{take-set-lt}
-use Rattle.alg_model.specs.Coefficients.{residues, mod_ops, IsCharacteristic}
-use Rattle.alg_model.specs.Matrices.{matrix_apply, combination, unit_column, IsColumn}
+use Rattle.alg_model.specs.Coefficients.{residues, mod_ops}
+use Rattle.alg_model.specs.Matrices.{matrix_apply, unit_column, IsColumn}
 use Rattle.alg_linear.proofs.Columns.{length_combination}
 use Rattle.alg_linear.proofs.CarrierMatrices.{columns_long}
 use Rattle.ff_residues.specs.SumRows.{IsRowOf, row_sum}
@@ -73,7 +73,8 @@ beginning_of_row n row column l fits same =
 -- **a place of what the matrix gives, by whole rows of the table**
 pub applied_place : (p n m : ℕ) (table : List (List ℕ)) → AreColumns p n m table → (x : List ℕ)
     → length x ≡ m → (k : ℕ) → k < n
-    → slice_index (matrix_apply (mod_ops p) (record { rows = n; columns = columns_in n m table }) x) k
+    → slice_index
+    (matrix_apply (mod_ops p) (record { rows = n; columns = columns_in n m table }) x) k
     ≡ row_sum (length x) x table k % p
 applied_place p n m table A x e k l =
     let fits : m ≤ length table = omega (arith, A.long, A.columns_fit) in

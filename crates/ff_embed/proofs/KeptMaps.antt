@@ -1,10 +1,10 @@
 -- What an `Embedding` keeps, for each way in which one is made.
-use Rattle.std.proofs.Common.{◌≡◌, ℕ, suc, ◌+◌, ◌<◌, List, [], length, map, slice_index_or, All, refl, ap, ap₂, sym, ◌∙◌, subst, arith}
-use Rattle.std.proofs.lemmas.List.FromFn.{length-map-range_with_len, get_or-map-range_with_len}
+use Rattle.std.proofs.Common.{◌≡◌, ℕ, ◌<◌, List, [], length, slice_index_or, ap, ap₂, sym, ◌∙◌, subst, arith}
+use Rattle.std.proofs.lemmas.List.FromFn.{get_or-map-range_with_len}
 use Prim.Native.Nat.{◌∣◌}
 use Rattle.alg_model.specs.Coefficients.{mod_ops, residues, power}
-use Rattle.alg_model.specs.Matrices.{Matrix, matrix_apply, matrix_product, identity_matrix, IsColumn, IsMatrix, IsIndependent}
-use Rattle.alg_model.specs.Maps.{Field, IsFiniteField, field_values, degree_of, generator, constants, map_matrix, apply, comp, identity_map, powers, IsEmbedding}
+use Rattle.alg_model.specs.Matrices.{Matrix, matrix_product, identity_matrix, IsColumn, IsMatrix, IsIndependent}
+use Rattle.alg_model.specs.Maps.{Field, field_values, degree_of, generator, constants, map_matrix, apply, comp, identity_map, powers, IsEmbedding}
 use Rattle.alg_model.specs.Roots.{IsRoot}
 use Rattle.alg_galois.proofs.Embeddings.{identity_embedding, apply_identity, apply_valid, generator_is_value, embedding_is_powers_of_image, comp_embedding}
 use Rattle.alg_galois.proofs.EmbeddingRoots.{embedding_of_root}
@@ -53,7 +53,8 @@ product_is_comp F a b m n p r c d =
 
 -- ---- a root
 module _ (E F : Field) (S : IsSmallField E) (T : IsSmallField F) (v : List ℕ)
-    (same : E.characteristic ≡ F.characteristic) (root : IsRoot F (constants F E.polynomial) v) where
+    (same : E.characteristic ≡ F.characteristic)
+    (root : IsRoot F (constants F E.polynomial) v) where
   root_embedding : IsEmbedding E F (powers F v (degree_of E))
   root_embedding = (embedding_of_root E F S.finite T.finite same v root).0
 

@@ -1,5 +1,5 @@
--- What `Columns` keeps: the columns of a matrix of residues, in a table of constant width. No public
--- clause cites this module.
+-- What `Columns` keeps: the columns of a matrix of residues, in a table of constant width. No
+-- public clause cites this module.
 --     columns_in n m table         the first n places of each of the first m rows of the table
 --     AreColumns p n m table       a table of residues modulo p that holds m columns of n places
 use Rattle.std.specs.Prelude.{◌≡◌, ℕ, ◌≤◌, List, length, map, take, All}

@@ -152,7 +152,8 @@ impl Columns {
     fn combined<const W: usize>(&self, x: &[u8]) -> Value
         requires width { W ≤ MAX_DEGREE }
         requires fits { self.now.matrix.rows ≤ W }
-        requires column { IsColumn (residues self.now.prime) (length self.now.matrix.columns) x.now }
+        requires column { IsColumn (residues self.now.prime) (length self.now.matrix.columns)
+            x.now }
         ensures value { result ≡ matrix_apply (mod_ops self.now.prime) self.now.matrix x.now }
         ensures column { IsColumn (residues self.now.prime) self.now.matrix.rows result }
     {

@@ -18,7 +18,8 @@ impl Embedding {
     pub fn of_root(from: &Field, into: &Field, v: &Value) -> Option<Embedding>
         requires characteristic { from.now.characteristic ≡ into.now.characteristic }
         requires valid { (field_values into.now).Valid v.now }
-        ensures some { IsSome result ↔ IsRoot into.now (constants into.now from.now.polynomial) v.now }
+        ensures some { IsSome result
+            ↔ IsRoot into.now (constants into.now from.now.polynomial) v.now }
         ensures source { IfSome result (λ e. e.source ≡ from.now) }
         ensures target { IfSome result (λ e. e.target ≡ into.now) }
         ensures images { IfSome result (λ e. e.images
@@ -52,7 +53,8 @@ fn by_powers(from: &Field, into: &Field, v: &Value) -> Embedding
 fn value_at(field: &Field, f: &[u8], v: &Value) -> Value
     requires residues { All (λ c. c < field.now.characteristic) f.now }
     requires point { (field_values field.now).Valid v.now }
-    ensures value { result ≡ evaluate (field_values field.now).ops (constants field.now f.now) v.now }
+    ensures value { result
+        ≡ evaluate (field_values field.now).ops (constants field.now f.now) v.now }
     ensures valid { (field_values field.now).Valid result }
 {
     let _prime = field.prime();

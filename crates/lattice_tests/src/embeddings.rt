@@ -106,18 +106,24 @@ fn is_value(value: &Option<Value>, digits: &[u8]) -> bool {
     }
 }
 
+// Whether images and preimages are those of the example.
+fn has_images(rt: &impl Abort, row: &Example) -> bool {
+    let from = field_of(rt, row.p, row.from);
+    let into = field_of(rt, row.p, row.into);
+    let map = embedded(rt, &from, &into, row.root);
+    let value = value_of(rt, &from, row.value);
+    let image = map.apply(&value);
+    let outside = value_of(rt, &into, row.outside);
+    map.image().digits() == row.root
+        && image.digits() == row.image
+        && is_value(&map.preimage(&image), row.value)
+        && map.preimage(&outside).is_none()
+}
+
 #[test]
 fn images_and_preimages(rt: HostRuntime) {
     for row in &EXAMPLES {
-        let from = field_of(&rt, row.p, row.from);
-        let into = field_of(&rt, row.p, row.into);
-        let map = embedded(&rt, &from, &into, row.root).copy();
-        assert_eq!(rt; map.image().digits(), row.root);
-        let image = map.apply(&value_of(&rt, &from, row.value));
-        assert_eq!(rt; image.digits(), row.image);
-        assert!(rt; is_value(&map.preimage(&image), row.value));
-        let outside = value_of(&rt, &into, row.outside);
-        assert!(rt; map.preimage(&outside).is_none());
+        assert!(rt; has_images(&rt, row));
     }
 }
 
@@ -126,7 +132,7 @@ fn parts(rt: HostRuntime) {
     for row in &EXAMPLES {
         let from = field_of(&rt, row.p, row.from);
         let into = field_of(&rt, row.p, row.into);
-        let map = embedded(&rt, &from, &into, row.root);
+        let map = embedded(&rt, &from, &into, row.root).copy();
         assert!(rt; map.prime().number() == from.prime().number());
         assert_eq!(rt; map.source_degree() as usize + 1, row.from.len());
         assert_eq!(rt; map.target_degree() as usize + 1, row.into.len());

@@ -1,4 +1,4 @@
-use Rattle.std.proofs.Common.{◌<◌, arith}
+use Rattle.std.proofs.Common.{arith}
 use Rattle.ff_poly.specs.declared.TheConstants.{MAX_DEGREE}
 use Rattle.ff_embed.proofs.ColumnTables.{unit_row_valid}
 use Rattle.ff_embed.proofs.columns.unit_row.Goals as goal

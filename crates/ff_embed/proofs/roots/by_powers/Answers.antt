@@ -1,4 +1,4 @@
-use Rattle.std.proofs.Common.{◌≡◌, ℕ, ap, sym, ◌∙◌}
+use Rattle.std.proofs.Common.{ap, ◌∙◌}
 use Rattle.alg_model.specs.Maps.{powers, degree_of}
 use Rattle.ff_poly.specs.Polynomial.{Polynomial}
 use Rattle.ff_embed.proofs.KeptMaps.{kept_at, powers_independent, root_kept}

@@ -1,4 +1,4 @@
-use Rattle.std.proofs.Common.{◌≡◌, ◌+◌, ◌%◌, ◌<◌, ◌≤◌, length, take, ap, ap₂, sym, ◌∙◌, subst, arith}
+use Rattle.std.proofs.Common.{◌≡◌, ◌+◌, ◌%◌, ◌<◌, ◌≤◌, length, take, ap, ap₂, sym, ◌∙◌, arith}
 use native.Mathlib.Nat.{zero-add}
 use Rattle.alg_model.specs.Coefficients.{mod_ops}
 use Rattle.alg_model.specs.Matrices.{matrix_apply}

@@ -1,4 +1,4 @@
-use Rattle.std.proofs.Common.{◌≡◌, ◌<◌, [], ◌∷◌, ◌++◌, length, ap, sym, ◌∙◌, arith}
+use Rattle.std.proofs.Common.{◌≡◌, [], ◌∷◌, ◌++◌, length, ap, sym, ◌∙◌, arith}
 use Rattle.ff_embed.proofs.ColumnTables.{length_columns, column_pushed, beginning_of_row}
 use Rattle.ff_embed.proofs.columns.Columns.push.Goals as goal
 

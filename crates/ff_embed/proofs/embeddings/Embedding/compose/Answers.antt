@@ -1,4 +1,4 @@
-use Rattle.std.proofs.Common.{◌≡◌, ℕ, refl, ap, sym, ◌∙◌}
+use Rattle.std.proofs.Common.{◌≡◌, ℕ, refl, ap, ◌∙◌}
 use Rattle.alg_model.specs.Matrices.{Matrix}
 use Rattle.alg_model.specs.Maps.{degree_of, comp}
 use Rattle.ff_poly.specs.Polynomial.{Polynomial}

@@ -1,4 +1,4 @@
-use Rattle.std.proofs.Common.{ℕ, ap, ap₂, sym, ◌∙◌}
+use Rattle.std.proofs.Common.{ℕ, ap, ap₂, ◌∙◌}
 use Rattle.alg_model.specs.Coefficients.{mod_ops}
 use Rattle.alg_model.specs.Matrices.{Matrix, identity_matrix}
 use Rattle.alg_model.specs.Maps.{identity_map}
