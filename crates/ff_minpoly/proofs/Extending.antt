@@ -50,8 +50,10 @@ module _ {X A : Type 0} {c : Carrier X} (P : IsPropositional c) (R : IsRing c) {
 
   -- it has the value of the list
   value_of_trimmed : (l : List (Element c)) (a : A)
-      → evaluate_by c h o (trim c.ops (map (underlying c) l),
-      trim_polynomial P R (map (underlying c) l) (underlying_valid c l)) a
+      → evaluate_by c h o (
+        trim c.ops (map (underlying c) l),
+        trim_polynomial P R (map (underlying c) l) (underlying_valid c l),
+      ) a
       ≡ evaluate o (map h l) a
   value_of_trimmed l a =
       ap (λ w. evaluate o (map h w) a)
