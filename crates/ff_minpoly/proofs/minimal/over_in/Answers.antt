@@ -1,4 +1,4 @@
-use Rattle.std.proofs.Common.{ap, ◌∙◌, subst}
+use Rattle.std.proofs.Common.{◌∙◌, subst}
 use Rattle.alg_model.specs.Roots.{IsMinimalOver}
 use Rattle.ff_minpoly.proofs.minimal.over_in.Goals as goal
 

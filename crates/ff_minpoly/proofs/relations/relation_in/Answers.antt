@@ -9,7 +9,7 @@ use Rattle.ff_field.specs.SmallFields.{IsSmallField}
 use Rattle.ff_poly.specs.declared.TheConstants.{MAX_DEGREE}
 use Rattle.ff_minpoly.specs.declared.TheConstants.{MAX_ROW}
 use Rattle.ff_polyx.proofs.FieldCarriers.{ring}
-use Rattle.ff_minpoly.specs.PrivateSpans.{IsTable, IsSpan, IsReduced}
+use Rattle.ff_minpoly.specs.PrivateSpans.{IsTable, IsSpan}
 use Rattle.ff_minpoly.specs.PrivateRelations.{product_place}
 use Rattle.ff_minpoly.proofs.Spans.{empty_span, reduced_same}
 use Rattle.ff_minpoly.proofs.Products.{Grows, products_start, products_next, first_place_is, product_places, power_reduced, power_grows, relation_found}

@@ -1,6 +1,6 @@
-use Rattle.std.proofs.Common.{◌≡◌, List, ℕ, map, ap, sym, ◌∙◌, subst}
+use Rattle.std.proofs.Common.{◌≡◌, map, ap, sym, ◌∙◌, subst}
 use Rattle.alg_model.specs.Polynomials.{trim}
-use Rattle.alg_model.specs.Maps.{Field, field_values, generator, apply, IsEmbedding}
+use Rattle.alg_model.specs.Maps.{field_values, generator, apply, IsEmbedding}
 use Rattle.alg_model.specs.Roots.{IsMinimalOver}
 use Rattle.ff_minpoly.proofs.Extending.{IsRestricted, restricted_facts}
 use Rattle.ff_minpoly.proofs.restrictions.restricted_in.Goals as goal
