@@ -2,14 +2,13 @@
 -- take D into F. The values of F at which g is zero, its coefficients taken by t, are those v for
 -- which the map of E into F that sends x to v is an embedding that agrees with t on D.
 --     lowered b cs     the polynomial over D with the residues cs as coefficients, less b
-use Rattle.std.proofs.Common.{◌≡◌, ◌↔◌, ℕ, suc, ◌+◌, ◌-◌, ◌*◌, ◌/◌, ◌^◌, ◌<◌, ◌≤◌, List, [], ◌∷◌, length, map, slice_index_or, All, refl, ap, ap₂, sym, ◌∙◌, subst, arith}
+use Rattle.std.proofs.Common.{◌≡◌, ◌↔◌, ℕ, ◌+◌, ◌-◌, ◌*◌, ◌/◌, ◌<◌, ◌≤◌, List, [], ◌∷◌, length, map, slice_index_or, All, refl, ap, ap₂, sym, ◌∙◌, subst, arith}
 use Rattle.std.proofs.lemmas.List.{length-map, get_or-map}
 use Rattle.std.proofs.lemmas.List.Elements.{All-head, All-tail, All-map}
 use Rattle.std.proofs.lemmas.Nat.Gcd.{le_of_dvd}
-use Rattle.std.proofs.Math.Nat.{mul_comm}
 use Rattle.std.proofs.lemmas.Nat.{mul-le}
 use native.Mathlib.Nat.{div-le_of_le-mul}
-use Rattle.alg_model.specs.Coefficients.{Ops, Carrier, power, residues, IsPrime}
+use Rattle.alg_model.specs.Coefficients.{Ops, Carrier, residues, IsPrime}
 use Rattle.alg_model.specs.Polynomials.{evaluate, trim}
 use Rattle.alg_model.specs.Factors.{IsPolynomial, IsMonic, Divides}
 use Rattle.alg_model.specs.Fields.{IsRing, IsField}
@@ -22,7 +21,7 @@ use Rattle.alg_rings.proofs.Homomorphisms.{Homomorphism, trim-map, evaluate-map}
 use Rattle.alg_rings.proofs.Evaluation
 use Rattle.alg_rings.proofs.Trims.{leading_at}
 use Rattle.alg_rings.proofs.CarrierPolynomials.{trim_polynomial, trimmed_from_leading}
-use Rattle.alg_rings.proofs.ResidueFields.{prime_residues_field, residues_propositional}
+use Rattle.alg_rings.proofs.ResidueFields.{residues_propositional}
 use Rattle.alg_rings.proofs.Divisibility
 use Rattle.alg_rings.proofs.Divisors.{Polynomial, polynomial_ops}
 use Rattle.alg_divisors.proofs.PolynomialFactors.{divides_from}
@@ -36,7 +35,7 @@ use Rattle.alg_galois.proofs.FieldMinimals.{subfield_minimals}
 use Rattle.alg_galois.proofs.Embeddings.{of_two_fields, of_three_fields, apply_valid, embeddings_equal, generator_is_value, comp_embedding, apply_comp}
 use Rattle.alg_galois.proofs.FieldSizes.{generator_returns}
 use Rattle.alg_galois.proofs.EmbeddingRoots.{zero_kept}
-use Rattle.ff_minpoly.proofs.ShortPolynomials.{IsShort, subfield_short}
+use Rattle.ff_minpoly.proofs.ShortPolynomials.{subfield_short}
 use Rattle.ff_minpoly.proofs.SubfieldRelations.{degrees_multiply}
 
 -- ---- the polynomial of a list of coefficients
@@ -50,8 +49,10 @@ module _ {X A : Type 0} {c : Carrier X} (P : IsPropositional c) (R : IsRing c) {
 
   -- it has the value of the list
   value_of_trimmed : (l : List (Element c)) (a : A)
-      → evaluate_by c h o (trim c.ops (map (underlying c) l),
-      trim_polynomial P R (map (underlying c) l) (underlying_valid c l)) a
+      → evaluate_by c h o (
+        trim c.ops (map (underlying c) l),
+        trim_polynomial P R (map (underlying c) l) (underlying_valid c l),
+      ) a
       ≡ evaluate o (map h l) a
   value_of_trimmed l a =
       ap (λ w. evaluate o (map h w) a)

@@ -1,16 +1,16 @@
 -- From the first relation of the powers of a value to its minimal polynomial, over any carrier c of
 -- coefficients: `image` takes a coefficient into the field F, where it is the combination of the
 -- block's values by its digits.
-use Rattle.std.proofs.Common.{◌≡◌, ◌≢◌, ℕ, zero, suc, ◌+◌, ◌-◌, ◌*◌, ◌/◌, ◌%◌, ◌<◌, ◌≤◌, List, [], ◌∷◌, length, map, slice_index, slice_index_or, All, refl, ap, ap₂, sym, ◌∙◌, subst, ⊎_elim, arith}
+use Rattle.std.proofs.Common.{◌≡◌, ◌≢◌, ℕ, zero, suc, ◌+◌, ◌-◌, ◌*◌, ◌/◌, ◌%◌, ◌<◌, List, [], ◌∷◌, length, map, slice_index, slice_index_or, All, refl, ap, ap₂, sym, ◌∙◌, ⊎_elim, arith}
 use Rattle.std.proofs.lemmas.Bool.{cases_lt}
 use Rattle.std.proofs.lemmas.List.{length-map, get_or-map, ext_get_or}
 use Rattle.std.proofs.lemmas.List.Elements.{All-get_or, All-map}
 use Rattle.std.proofs.lemmas.Nat.{div-mul-add, mod-mul-add}
 use Rattle.std.proofs.Math.Nat.{add-mul-mod_self_right, add_comm}
-use native.Mathlib.Nat.{add-zero, zero-add, zero-mod, zero-mul, mod-mod}
+use native.Mathlib.Nat.{zero-add, zero-mod, zero-mul}
 use Rattle.alg_model.specs.Coefficients.{Ops, Carrier, power}
-use Rattle.alg_model.specs.Polynomials.{evaluate, leading}
-use Rattle.alg_model.specs.Factors.{IsPolynomial, IsMonic}
+use Rattle.alg_model.specs.Polynomials.{evaluate}
+use Rattle.alg_model.specs.Factors.{IsMonic}
 use Rattle.alg_model.specs.Fields.{IsRing}
 use Rattle.alg_model.specs.Maps.{Field, IsFiniteField, field_values, degree_of}
 use Rattle.alg_model.specs.Roots.{IsMinimalPolynomial}

@@ -1,8 +1,8 @@
 -- The first relation of the powers of a value over the prime field: its minimal polynomial.
-use Rattle.std.proofs.Common.{◌≡◌, ◌≢◌, ℕ, suc, ◌+◌, ◌*◌, ◌%◌, ◌<◌, ◌≤◌, List, [], ◌∷◌, ◌++◌, length, slice_index, slice_index_or, All, refl, ap, sym, ◌∙◌, subst, arith}
+use Rattle.std.proofs.Common.{◌≡◌, ◌≢◌, ℕ, ◌+◌, ◌*◌, ◌%◌, ◌<◌, ◌≤◌, List, [], ◌∷◌, ◌++◌, length, slice_index, slice_index_or, refl, ap, sym, ◌∙◌, subst, arith}
 use Rattle.std.proofs.lemmas.List.{length-append, get_or_append_left, get_or_push}
 use Rattle.std.proofs.lemmas.List.Elements.{All-append, All-nil, All-cons}
-use native.Mathlib.Nat.{mod-mod, zero-add, mul-one, add-zero}
+use native.Mathlib.Nat.{mod-mod, zero-add, mul-one}
 use Rattle.alg_model.specs.Coefficients.{residues, mod_ops}
 use Rattle.alg_model.specs.Fields.{IsRing}
 use Rattle.alg_model.specs.Maps.{Field, IsFiniteField, field_values, degree_of, constant}
@@ -12,7 +12,7 @@ use Rattle.ff_residues.specs.SumRows.{sum_below}
 use Rattle.ff_field.proofs.RemainderRows.{scale_at}
 use Rattle.ff_minpoly.specs.PrivateRelations.{HasRelation, IsRelation}
 use Rattle.ff_minpoly.proofs.ValuePlaces.{ring, scaled, constant_valid}
-use Rattle.ff_minpoly.proofs.ShortPolynomials.{IsShort, prime_short}
+use Rattle.ff_minpoly.proofs.ShortPolynomials.{prime_short}
 use Rattle.ff_minpoly.proofs.MinimalRelations.{monic_dependent, relation_is_minimal}
 
 one_is_not_zero : (n : ℕ) → n ≡ 1 → n ≡ 0 → ⊥

@@ -1,5 +1,5 @@
 -- The products of a block of values with the powers of a value.
-use Rattle.std.proofs.Common.{◌≡◌, ℕ, zero, suc, ◌+◌, ◌*◌, ◌/◌, ◌%◌, ◌<◌, ◌≤◌, List, [], length, slice_index, slice_index_or, All, refl, ap, ap₂, sym, ◌∙◌, subst, ⊎_elim, arith}
+use Rattle.std.proofs.Common.{◌≡◌, ℕ, suc, ◌+◌, ◌*◌, ◌%◌, ◌<◌, ◌≤◌, List, [], length, slice_index, slice_index_or, All, refl, ap, ap₂, sym, ◌∙◌, subst, ⊎_elim, arith}
 use Rattle.std.proofs.lemmas.Bool.{cases_lt}
 use Rattle.std.proofs.lemmas.List.Elements.{All-get_or}
 use Rattle.std.proofs.lemmas.Nat.{div-mul-add, mod-mul-add}
@@ -9,7 +9,6 @@ use Rattle.alg_model.specs.Coefficients.{power}
 use Rattle.alg_model.specs.Fields.{IsRing}
 use Rattle.alg_model.specs.Maps.{Field, field_values, degree_of}
 use Rattle.alg_rings.proofs.Validity.{power_valid}
-use Rattle.ff_residues.specs.SumRows.{sum_below}
 use Rattle.ff_residues.proofs.SumsBelow.{sum_same}
 use Rattle.ff_minpoly.specs.PrivateSpans.{combined, InSpan, IsSpan, IsReduced}
 use Rattle.ff_minpoly.specs.PrivateRelations.{product_place, IsDependent, HasRelation, IsRelation}

@@ -1,11 +1,10 @@
 -- What is kept when columns go through the elimination one after another, in numbers modulo p.
-use Rattle.std.proofs.Common.{◌≡◌, ◌≢◌, ℕ, zero, suc, ◌+◌, ◌-◌, ◌*◌, ◌%◌, ◌<◌, ◌≤◌, List, [], ◌∷◌, ◌++◌, length, slice_index, slice_index_or, slice_set, All, refl, ap, ap₂, sym, ◌∙◌, subst, ⊎_elim, arith, add-suc, mod-eq_of_lt}
-use Rattle.std.proofs.lemmas.Bool.{cases_eq, cases_lt}
+use Rattle.std.proofs.Common.{◌≡◌, ◌≢◌, ℕ, zero, suc, ◌+◌, ◌-◌, ◌*◌, ◌%◌, ◌<◌, ◌≤◌, List, [], ◌∷◌, ◌++◌, length, slice_index, slice_index_or, slice_set, refl, ap, ap₂, sym, ◌∙◌, subst, ⊎_elim, arith, mod-eq_of_lt}
+use Rattle.std.proofs.lemmas.Bool.{cases_eq}
 use Rattle.std.proofs.lemmas.List.{get_or_past, get_or-set_same, get_or-set_other, length-append, get_or_append_left, get_or_push}
-use Rattle.std.proofs.Math.Nat.{mod_self, add-mul-mod_self_right, mul_comm, mul_assoc}
-use native.Mathlib.Nat.{mod-mod, mod-add-mod, add-mod-mod, add-zero, zero-add, mul-zero, zero-mul, mul-one, zero-mod}
-use Rattle.ff_residues.specs.SumRows.{sum_below}
-use Rattle.ff_residues.proofs.SumsBelow.{add_agree, mul_agree, sum_same, sum_agree, sum_zero}
+use Rattle.std.proofs.Math.Nat.{mod_self, add-mul-mod_self_right, mul_comm}
+use native.Mathlib.Nat.{mod-mod, add-mod-mod, add-zero, zero-add, mul-zero, zero-mul, mul-one, zero-mod}
+use Rattle.ff_residues.proofs.SumsBelow.{add_agree, mul_agree, sum_agree, sum_zero}
 use Rattle.ff_minpoly.specs.PrivateSpans.{combined, InSpan, IsNoted, IsSpan, IsReduced, IsNormal}
 
 -- ---- combinations of columns

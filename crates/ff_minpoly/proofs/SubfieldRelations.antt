@@ -1,5 +1,5 @@
 -- The first relation of the powers of a value over a subfield: its minimal polynomial.
-use Rattle.std.proofs.Common.{◌≡◌, ◌≢◌, ℕ, suc, ◌+◌, ◌*◌, ◌/◌, ◌%◌, ◌<◌, ◌≤◌, List, [], length, slice_index, slice_index_or, All, ap, sym, ◌∙◌, subst, arith}
+use Rattle.std.proofs.Common.{◌≡◌, ℕ, suc, ◌+◌, ◌*◌, ◌/◌, ◌%◌, ◌<◌, ◌≤◌, List, [], length, slice_index, slice_index_or, All, ap, sym, ◌∙◌, subst, arith}
 use Rattle.std.proofs.lemmas.Nat.Gcd.{mod-eq-zero_of_dvd}
 use Rattle.std.proofs.Math.Nat.{mul_comm, mul-le-mul_right}
 use native.Mathlib.Nat.{div-add-mod, add-zero, mul-div_cancel}
@@ -11,8 +11,8 @@ use Rattle.alg_galois.proofs.Embeddings.{apply_valid}
 use Rattle.alg_galois.proofs.EmbeddingRoots.{embedding_degree_divides}
 use Rattle.ff_residues.specs.SumRows.{sum_below}
 use Rattle.ff_minpoly.specs.PrivateRelations.{HasRelation, IsRelation, IsMonicOf}
-use Rattle.ff_minpoly.proofs.ValuePlaces.{propositional, ring, combination_times}
-use Rattle.ff_minpoly.proofs.ShortPolynomials.{IsShort, subfield_short}
+use Rattle.ff_minpoly.proofs.ValuePlaces.{propositional, combination_times}
+use Rattle.ff_minpoly.proofs.ShortPolynomials.{subfield_short}
 use Rattle.ff_minpoly.proofs.MinimalRelations.{monic_dependent, relation_is_minimal}
 
 module _ (E F : Field) (V : IsFiniteField E) (W : IsFiniteField F) (m : List (List ℕ))

@@ -1,7 +1,6 @@
 -- Places of values: of the value of a polynomial, and of a product with a combination of values.
-use Rattle.std.proofs.Common.{◌≡◌, ◌≢◌, ℕ, zero, suc, ◌+◌, ◌*◌, ◌%◌, ◌<◌, List, [], ◌∷◌, length, slice_index, slice_index_or, All, ap, ap₂, sym, ◌∙◌, subst, arith, add-suc, mod-lt}
+use Rattle.std.proofs.Common.{◌≡◌, ℕ, suc, ◌+◌, ◌*◌, ◌%◌, ◌<◌, List, [], ◌∷◌, length, slice_index, slice_index_or, All, ap, ap₂, sym, ◌∙◌, subst, arith}
 use Rattle.std.proofs.lemmas.List.Elements.{All-head, All-tail}
-use Rattle.std.proofs.Math.Nat.{add_assoc}
 use native.Mathlib.Nat.{mod-mod, add-zero, add-mod-mod, zero-mod}
 use Rattle.alg_model.specs.Coefficients.{Ops, mod_ops, power}
 use Rattle.alg_model.specs.Polynomials.{evaluate, scale}
@@ -19,7 +18,7 @@ use Rattle.alg_fields.proofs.ValueFields.{values_propositional}
 use Rattle.alg_finite.proofs.Values
 use Rattle.alg_galois.proofs.Fields.{modulus_of, modulus, of_residue}
 use Rattle.ff_residues.specs.SumRows.{sum_below}
-use Rattle.ff_residues.proofs.SumsBelow.{add_agree, mul_agree, sum_same, sum_agree, sum_first}
+use Rattle.ff_residues.proofs.SumsBelow.{add_agree, sum_same, sum_first}
 use Rattle.ff_field.proofs.RemainderRows.{sum_at_both, scale_at}
 
 module _ (F : Field) (W : IsFiniteField F) where

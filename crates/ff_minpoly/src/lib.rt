@@ -7,8 +7,8 @@ mod minimal;
 mod relations;
 mod restrictions;
 
-pub use minimal::{over, over_prime};
-pub use restrictions::restricted;
+pub use minimal::{over, over_in, over_prime};
+pub use restrictions::{restricted, restricted_in};
 
 // The most places that a row has: those of a column, and as many coefficients.
 pub(crate) const MAX_ROW: usize = 96;

@@ -42,11 +42,11 @@ pub fn over(map: &Embedding, a: &Value) -> PolyX
     requires { (field_values map.now.target).Valid a.now }
     ensures { IsMinimalOver map.now.source map.now.target map.now.images a.now result }
 {
-    minimal_over(&map.source(), &map.target(), map, a)
+    over_in(&map.source(), &map.target(), map, a)
 }
 
-// The same, for the fields of the map.
-pub(crate) fn minimal_over(source: &Field, target: &Field, map: &Embedding, a: &Value) -> PolyX
+/// The same as `over`, with the two fields of `map`, whose tables are then not made anew.
+pub fn over_in(source: &Field, target: &Field, map: &Embedding, a: &Value) -> PolyX
     requires source { source.now ≡ map.now.source }
     requires target { target.now ≡ map.now.target }
     requires value { (field_values map.now.target).Valid a.now }

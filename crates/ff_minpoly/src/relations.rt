@@ -7,7 +7,9 @@ ghost use Rattle.ff_minpoly.specs.PrivateSpans.{AreRows, IsTable, IsSpan};
 ghost use Rattle.ff_minpoly.specs.PrivateRelations.{HasRelation, IsRelation};
 
 use crate::MAX_ROW;
-use crate::elimination::{Pivots, add_column, blank_row, coefficients, first_place, insert, reduced};
+use crate::elimination::{
+    Pivots, add_column, blank_row, coefficients, first_place, insert, reduced,
+};
 use arrayvec::ArrayVec;
 use ff_field::{Field, Value};
 use ff_poly::{MAX_DEGREE, Prime};

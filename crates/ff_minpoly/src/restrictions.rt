@@ -2,10 +2,10 @@
 ghost use Rattle.std.specs.Prelude.{◌≡◌, ◌↔◌, ℕ, List, ◌+◌, ◌/◌, ◌≤◌, length, map, All};
 ghost use Rattle.alg_model.specs.Polynomials.{evaluate, trim};
 ghost use Rattle.alg_model.specs.Factors.{IsPolynomial, IsMonic};
-ghost use Rattle.alg_model.specs.Maps.{field_values, degree_of, generator, apply, comp, IsEmbedding};
-ghost use Rattle.alg_model.specs.Candidates.{map_sending};
+ghost use Rattle.alg_model.specs.Maps.{field_values, degree_of, apply};
+ghost use Rattle.ff_minpoly.specs.Extensions.{Extends};
 
-use crate::minimal::minimal_over;
+use crate::over_in;
 use arrayvec::ArrayVec;
 use ff_embed::Embedding;
 use ff_field::{Field, Value};
@@ -23,17 +23,36 @@ pub fn restricted(sub: &Embedding, into: &Embedding) -> PolyX
     ensures polynomial { IsPolynomial (field_values into.now.target) result }
     ensures monic { IsMonic (field_values into.now.target) result }
     ensures count { length result ≡ degree_of sub.now.target / degree_of sub.now.source + 1 }
-    ensures roots { let E = sub.now.target in let F = into.now.target in
-        (v : List ℕ) → (field_values F).Valid v
-        → (evaluate (field_values F).ops result v ≡ (field_values F).ops.zero)
-        ↔ (IsEmbedding E F (map_sending E F v)
-        × (apply F (map_sending E F v) (generator E) ≡ v)
-        × (comp F sub.now.images (map_sending E F v) ≡ into.now.images)) }
+    ensures roots { (v : List ℕ) → (field_values into.now.target).Valid v
+        → (evaluate (field_values into.now.target).ops result v
+        ≡ (field_values into.now.target).ops.zero) ↔ Extends sub.now into.now v }
+{
+    restricted_in(&sub.source(), &sub.target(), &into.target(), sub, into)
+}
+
+/// The same as `restricted`, with the source and the target of `sub` and the target of `into`,
+/// whose tables are then not made anew.
+pub fn restricted_in(
+    source: &Field,
+    middle: &Field,
+    target: &Field,
+    sub: &Embedding,
+    into: &Embedding,
+) -> PolyX
+    requires source { source.now ≡ sub.now.source }
+    requires middle { middle.now ≡ sub.now.target }
+    requires target { target.now ≡ into.now.target }
+    requires same { sub.now.source ≡ into.now.source }
+    ensures polynomial { IsPolynomial (field_values into.now.target) result }
+    ensures monic { IsMonic (field_values into.now.target) result }
+    ensures count { length result ≡ degree_of sub.now.target / degree_of sub.now.source + 1 }
+    ensures roots { (v : List ℕ) → (field_values into.now.target).Valid v
+        → (evaluate (field_values into.now.target).ops result v
+        ≡ (field_values into.now.target).ops.zero) ↔ Extends sub.now into.now v }
 {
     let (_sub, _into) = (sub.prime(), into.prime());
-    let middle = sub.target();
-    let minimal = minimal_over(&sub.source(), &middle, sub, &middle.generator());
-    image(&into.target(), into, minimal.coefficients())
+    let minimal = over_in(source, middle, sub, &middle.generator());
+    image(target, into, minimal.coefficients())
 }
 
 // The polynomial whose coefficients are the images of these.

@@ -1,4 +1,4 @@
-use Rattle.std.proofs.Common.{◌≡◌, ℕ, ◌+◌, ◌<◌, length, slice_index, refl, sym, subst, suc, arith}
+use Rattle.std.proofs.Common.{◌≡◌, ◌+◌, ◌<◌, length, slice_index, refl, sym, subst, suc, arith}
 use Rattle.ff_minpoly.specs.PrivateSpans.{IsSpan, IsReduced}
 use Rattle.ff_minpoly.proofs.Spans.{column_skipped, reduced_same}
 use Rattle.ff_minpoly.proofs.elimination.add_column.Goals as goal

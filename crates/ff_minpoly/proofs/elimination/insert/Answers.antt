@@ -1,4 +1,4 @@
-use Rattle.std.proofs.Common.{◌≡◌, ℕ, ◌+◌, ◌<◌, List, [], ◌∷◌, ◌++◌, length, slice_set, ap, sym, subst, suc, arith}
+use Rattle.std.proofs.Common.{◌≡◌, ◌+◌, ◌<◌, [], ◌∷◌, ◌++◌, length, slice_set, sym, subst, suc, arith}
 use Rattle.ff_minpoly.specs.PrivateSpans.{IsSpan}
 use Rattle.ff_minpoly.proofs.Spans.{column_inserted}
 use Rattle.ff_minpoly.proofs.elimination.insert.Goals as goal

@@ -1,4 +1,4 @@
-use Rattle.std.proofs.Common.{◌≡◌, ℕ, ◌*◌, length, ap, sym, ◌∙◌, subst}
+use Rattle.std.proofs.Common.{subst}
 use Rattle.ff_minpoly.specs.PrivateRelations.{IsMonicOf}
 use Rattle.ff_minpoly.proofs.DigitValues.{first_image}
 use Rattle.ff_minpoly.proofs.SubfieldRelations.{subfield_relation_exists, subfield_relation_is_minimal}

@@ -1,7 +1,6 @@
-use Rattle.std.proofs.Common.{◌<◌, [], ◌∷◌, ◌++◌, List, ℕ, ◌≡◌, All, ap, sym, ◌∙◌, subst}
+use Rattle.std.proofs.Common.{◌<◌, [], ◌∷◌, ◌++◌, ◌≡◌, All, ap, sym, ◌∙◌, subst}
 use Rattle.alg_model.specs.Coefficients.{mod_ops}
 use Rattle.alg_model.specs.Polynomials.{trim}
-use Rattle.alg_model.specs.Maps.{field_values}
 use Rattle.alg_model.specs.Roots.{IsMinimal}
 use Rattle.ff_minpoly.specs.PrivateRelations.{HasRelation, IsRelation}
 use Rattle.ff_minpoly.proofs.PrimeRelations.{prime_relation_exists, prime_relation_is_minimal}

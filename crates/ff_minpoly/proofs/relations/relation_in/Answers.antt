@@ -9,7 +9,7 @@ use Rattle.ff_field.specs.SmallFields.{IsSmallField}
 use Rattle.ff_poly.specs.declared.TheConstants.{MAX_DEGREE}
 use Rattle.ff_minpoly.specs.declared.TheConstants.{MAX_ROW}
 use Rattle.ff_polyx.proofs.FieldCarriers.{ring}
-use Rattle.ff_minpoly.specs.PrivateSpans.{IsTable, IsSpan, IsReduced}
+use Rattle.ff_minpoly.specs.PrivateSpans.{IsTable, IsSpan}
 use Rattle.ff_minpoly.specs.PrivateRelations.{product_place}
 use Rattle.ff_minpoly.proofs.Spans.{empty_span, reduced_same}
 use Rattle.ff_minpoly.proofs.Products.{Grows, products_start, products_next, first_place_is, product_places, power_reduced, power_grows, relation_found}
@@ -153,8 +153,7 @@ add_others-requires g c =
     let T = c.loop-j.invariant.table in
     let few : length c.loop-j.pivots ≤ c.loop-j.j * length c.args.block.now = T.few in
     let long : length (c.loop-j.pivots ++ c.in-Some.pivot ∷ []) ≡ length c.loop-j.pivots + 1 =
-    length-append c.loop-j.pivots (c.in-Some.pivot ∷ []) in
-    (
+    length-append c.loop-j.pivots (c.in-Some.pivot ∷ []) in (
       omega (arith, narrow),
       (
         narrow,
@@ -174,12 +173,12 @@ add_others-requires g c =
               (
                 omega (arith, S.count, c.requires.some),
                 record {
-      rows_are = c.insert.ensures.rows;
-      within = subst (All (λ x. x < n)) (sym c.insert.ensures.pivots)
-          (All-append (λ x. x < n) c.loop-j.pivots (c.in-Some.pivot ∷ []) T.within
-          (All-cons (λ x. x < n) c.in-Some.pivot [] c.in-Some.ensures.some.0 (All-nil (λ x. x < n))));
-      few = omega (arith, long, few, ap length c.insert.ensures.pivots);
-    },
+                  rows_are = c.insert.ensures.rows;
+                  within = subst (All (λ x. x < n)) (sym c.insert.ensures.pivots)
+                      (All-append (λ x. x < n) c.loop-j.pivots (c.in-Some.pivot ∷ []) T.within
+                      (All-cons (λ x. x < n) c.in-Some.pivot [] c.in-Some.ensures.some.0 (All-nil (λ x. x < n))));
+                  few = omega (arith, long, few, ap length c.insert.ensures.pivots);
+                },
               ),
             ),
           ),

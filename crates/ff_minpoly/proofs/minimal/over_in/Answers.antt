@@ -1,6 +1,6 @@
-use Rattle.std.proofs.Common.{ap, ◌∙◌, subst}
+use Rattle.std.proofs.Common.{◌∙◌, subst}
 use Rattle.alg_model.specs.Roots.{IsMinimalOver}
-use Rattle.ff_minpoly.proofs.minimal.minimal_over.Goals as goal
+use Rattle.ff_minpoly.proofs.minimal.over_in.Goals as goal
 
 pub returns : goal.returns
 returns c =
