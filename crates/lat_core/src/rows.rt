@@ -1,0 +1,34 @@
+//! Named fields, and maps between fields by their numbers.
+
+ghost use Rattle.std.specs.Prelude.{◌≡◌};
+
+use crate::names::FieldName;
+use ff_field::Field;
+use std::marker::Model;
+
+/// A field of a lattice, with its name.
+#[derive(Drop)]
+pub struct FieldRow {
+    pub name: FieldName,
+    pub field: Field,
+}
+
+impl Model for FieldRow {
+    ghost use Rattle.alg_model.specs.Lattices.{Row};
+
+    ghost Value = { Row };
+
+    ghost view = { λ row. record { name = row.name; field = row.field } };
+}
+
+impl FieldRow {
+    /// An equal row. Takes no memory.
+    pub fn copy(&self) -> Self
+        ensures { result ≡ self.now }
+    {
+        FieldRow {
+            name: self.name.copy(),
+            field: self.field.copy(),
+        }
+    }
+}
