@@ -1,6 +1,9 @@
 pub mod NameLengths
+pub mod GrownRows
+pub mod KeptMaps
 pub mod Decisions
 pub mod MapCounts
+pub mod MapLengths
 pub mod StepExists
 pub mod StepDetermined
 pub mod StepKeeps

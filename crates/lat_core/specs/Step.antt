@@ -13,7 +13,7 @@
 --     Steps L request reply M         the reply to a request, and the lattice afterwards
 use Rattle.std.specs.Prelude.{◌≡◌, ◌≢◌, ℕ, ◌+◌, ◌<◌, ◌≤◌, true, false, List, length, slice_index_or, All, Contains, Option, Some, MatchOption}
 use Rattle.std.specs.Option.{option_map}
-use Rattle.std.specs.FinMap.{len}
+use Rattle.lat_core.specs.SharedRows.{map_count}
 use Rattle.std.specs.Ordering.{nat_cmp}
 use Prim.Native.Nat.{◌∣◌}
 use Rattle.alg_model.specs.Coefficients.{residues}
@@ -155,7 +155,7 @@ module _ (L : Lattice) (E F : ℕ) where
     embedded : {degrees v : List ℕ} {M : Lattice} {linked : ℕ} → AreEmbeddable sending
         → AreMissing L E F degrees → length L.rows + length degrees ≤ L.edition.room
         → IsChoice L E F (prescribed_values sending) v → IsFilled L E F (embedding_by L E F v) M
-        → len M.maps ≡ len L.maps + linked
+        → map_count M ≡ map_count L + linked
         → EmbedsField sending (Embedded v (length degrees) linked) M
 
 pub data Embeds (L : Lattice) (from into : List ℕ) (sending : Option Sending)

@@ -4,6 +4,7 @@
 
 mod digits;
 mod editions;
+mod lattices;
 mod laws;
 mod memory;
 mod names;
@@ -13,10 +14,12 @@ mod questions;
 mod replies;
 mod requests;
 mod rows;
+mod shared_rows;
 mod tagged;
 
 pub use digits::{Digits, MAX_DIGITS};
 pub use editions::Edition;
+pub use lattices::Lattice;
 pub use laws::{plain_embeddings_are_found, requests_have_one_reply, requests_keep_compatible};
 pub use memory::NoMemory;
 pub use names::{FieldName, MAX_NAME};
@@ -25,7 +28,8 @@ pub use outcomes::{Line, Outcome, SessionRefusal};
 pub use questions::{Answer, CoerceFault, Question};
 pub use replies::{ChangeFault, Entry, Placed, Reply, StepRefusal};
 pub use requests::Request;
-pub use rows::FieldRow;
+pub use rows::{FieldRow, MapRow};
+pub use shared_rows::SharedRow;
 pub use tagged::{Sending, Tagged};
 
 /// The greatest number of fields of a lattice.

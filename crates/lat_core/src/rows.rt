@@ -3,6 +3,7 @@
 ghost use Rattle.std.specs.Prelude.{◌≡◌};
 
 use crate::names::FieldName;
+use ff_embed::Embedding;
 use ff_field::Field;
 use std::marker::Model;
 
@@ -29,6 +30,27 @@ impl FieldRow {
         FieldRow {
             name: self.name.copy(),
             field: self.field.copy(),
+        }
+    }
+}
+
+/// A map of a lattice: the numbers of its fields, and the embedding.
+#[derive(Drop)]
+pub struct MapRow {
+    pub from: u32,
+    pub into: u32,
+    pub map: Embedding,
+}
+
+impl MapRow {
+    /// An equal one. Takes no memory.
+    pub fn copy(&self) -> Self
+        ensures { result ≡ self.now }
+    {
+        MapRow {
+            from: self.from,
+            into: self.into,
+            map: self.map.copy(),
         }
     }
 }
