@@ -1,5 +1,5 @@
 -- What can be told of names, of declared polynomials, of prescribed values and of candidates.
-use Rattle.std.proofs.Common.{◌≡◌, ◌⊎◌, inl, inr, ⊎_elim, ℕ, ◌<◌, ◌≤◌, List, length, slice_index_or, slice_index, sym, ◌∙◌, subst, arith, Option, Some, None, ◌^◌}
+use Rattle.std.proofs.Common.{◌≡◌, ◌⊎◌, inl, inr, ⊎_elim, ℕ, ◌<◌, ◌≤◌, List, length, slice_index_or, slice_index, sym, subst, arith, Option, Some, None, ◌^◌}
 use Rattle.std.specs.Prelude.{All, Contains}
 use Rattle.std.specs.Ordering.{nat_cmp}
 use Rattle.std.proofs.lemmas.Bool.{cases_lt, cases_eq}
@@ -7,7 +7,7 @@ use Rattle.std.proofs.lemmas.Cmp.{nat_cmp_total}
 use Rattle.std.proofs.lemmas.Grind.{get_or_default_zero}
 use Rattle.alg_model.specs.Coefficients.{mod_ops, residues, IsPrime}
 use Rattle.alg_model.specs.Polynomials.{leading}
-use Rattle.alg_model.specs.Factors.{IsPolynomial, IsMonic, IsIrreducible, IsLeastFactor}
+use Rattle.alg_model.specs.Factors.{IsPolynomial, IsIrreducible, IsLeastFactor}
 use Rattle.alg_model.specs.Values.{degree}
 use Rattle.alg_model.specs.Maps.{IsFiniteField, field_values, degree_of}
 use Rattle.alg_model.specs.Lattices.{Edition, Lattice, no_row, field_at, IsEdition, IsCompatible}

@@ -1,16 +1,15 @@
 -- The rows of a lattice with rows and maps added, and what they store.
-use Rattle.std.proofs.Common.{◌≡◌, ◌≢◌, ◌⊎◌, ⊎_elim, inl, inr, ℕ, zero, suc, ◌+◌, ◌<◌, ◌≤◌, ◌==◌, if◌then◌else◌, List, [], ◌∷◌, ◌++◌, map, take, length, slice_index_or, get_or, refl, sym, ap, ap₂, ◌∙◌, subst, cond, true, false, Bool, arith, Option, Some, None, length-append, length-take}
-use Rattle.std.specs.Prelude.{All}
+use Rattle.std.proofs.Common.{◌≡◌, ◌≢◌, ⊎_elim, ℕ, zero, suc, ◌+◌, ◌<◌, ◌≤◌, ◌==◌, if◌then◌else◌, List, [], ◌∷◌, ◌++◌, map, take, length, slice_index_or, refl, sym, ap, ap₂, ◌∙◌, subst, cond, true, false, Bool, arith, Option, Some, None, length-take}
 use Rattle.std.specs.Option.{option_map}
 use Rattle.std.specs.Cmp.{unsigned_tied}
 use Rattle.std.specs.Ordering.{nat_cmp, eq_by_cmp}
 use Rattle.std.specs.FinMap.{FinMap, get, insert, empty, get-empty, get-insert, same_map}
-use Rattle.std.proofs.lemmas.Bool.{cases_lt, cases_eq, cases_Bool}
+use Rattle.std.proofs.lemmas.Bool.{cases_lt, cases_Bool}
 use Rattle.std.proofs.lemmas.Bool.Decides.{nat_tests}
 use Rattle.std.proofs.lemmas.Cmp.{nat_cmp_total}
 use Rattle.std.proofs.lemmas.List.{length-map, map-append, append_assoc, take_more, get_or_past, get_or_append_left}
 use Rattle.std.proofs.lemmas.List.Elements.{All-head, All-tail}
-use Rattle.alg_model.specs.Lattices.{Edition, Lattice, Row, no_row, field_at, pair_cmp, Stored, IsCompatible}
+use Rattle.alg_model.specs.Lattices.{Edition, Lattice, Row, no_row, pair_cmp, IsCompatible}
 use Rattle.alg_compatible.proofs.Tables.{pair_total, pair_antisymmetric}
 use Rattle.ff_embed.specs.SmallEmbeddings.{FieldMap}
 use Rattle.lat_core.specs.declared.rows.MapRow.{MapRow}
@@ -81,7 +80,7 @@ put_here n r m e = ap (λ b. if b then record { row = r.row; maps = insert r.map
 put_elsewhere : (n : ℕ) (r : RowMaps) (m : MapRow) → (m.from == n) ≡ false → row_put n r m ≡ r
 put_elsewhere n r m e = ap (λ b. if b then record { row = r.row; maps = insert r.maps m.into m.map } else r) e
 
-same_number : (a n : ℕ) → (a == n) ≡ true → a ≡ n
+pub same_number : (a n : ℕ) → (a == n) ≡ true → a ≡ n
 same_number a n e = grind (arith, nat_tests, e)
 
 other_number : (a n : ℕ) → (a == n) ≡ false → n ≢ a

@@ -8,13 +8,13 @@ use Rattle.std.specs.List.{AllZip}
 use Rattle.std.specs.Map.{lookup}
 use Rattle.std.specs.FinMap.{FinMap, get, entries, find, insert, get-entries, get-empty, get-insert, get-from_entries, same_map, nat_cmp-IsAntisymmetric}
 use Rattle.std.proofs.lemmas.Cmp.{nat_cmp_total, tied_itself, eq_by_cmp_equiv}
-use Rattle.std.proofs.lemmas.List.{get_or-map, get_or_default, length-map}
+use Rattle.std.proofs.lemmas.List.{get_or-map, length-map}
 use Rattle.std.proofs.lemmas.Map.Made.{lookup-map_values}
 use Rattle.alg_model.specs.Lattices.{Edition, Lattice, no_row, pair_cmp}
 use Rattle.alg_rings.proofs.PolynomialOrder.{nat_cmp_same}
 use Rattle.alg_compatible.proofs.Tables.{pair_total}
 use Rattle.ff_embed.specs.SmallEmbeddings.{FieldMap}
-use Rattle.lat_core.specs.SharedRows.{RowMaps, IsBetween, IsRowOf}
+use Rattle.lat_core.specs.SharedRows.{RowMaps, IsRowOf}
 use Rattle.lat_core.specs.PrivateLattices.{maps_of, no_maps, entries_from, entries_of, lattice_of, AreKept}
 
 -- ---- one row

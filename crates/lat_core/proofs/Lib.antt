@@ -1,4 +1,5 @@
 pub mod NameLengths
+pub mod Openings
 pub mod GrownRows
 pub mod KeptMaps
 pub mod Decisions

@@ -1,5 +1,5 @@
 -- A finite map with all keys of another one isn't smaller.
-use Rattle.std.proofs.Common.{◌≡◌, ◌≢◌, ℕ, zero, suc, ◌-◌, ◌≤◌, List, [], ◌∷◌, length, sym, ap, ◌∙◌, cond, true, false, Bool, arith, Option, Some, None, is_some, ⊎_elim, Ordering}
+use Rattle.std.proofs.Common.{◌≡◌, ◌≢◌, ℕ, zero, suc, ◌-◌, ◌≤◌, List, [], ◌∷◌, length, sym, ap, ◌∙◌, cond, true, false, arith, Some, None, is_some, ⊎_elim, Ordering}
 use Rattle.std.specs.Cmp.{IsTotalOrder}
 use Rattle.std.specs.Ordering.{eq_by_cmp, is_eq}
 use Rattle.std.specs.FinMap.{FinMap, get, remove, len, entries, get-entries, len-entries, empty_of_len, get-empty, get-remove, len-remove, contains_key, find}

@@ -23,7 +23,7 @@ use Rattle.lat_core.specs.Editions.{edition_of}
 use Rattle.lat_core.specs.SharedRows.{RowMaps, map_count}
 use Rattle.lat_core.specs.PrivateLattices.{AreKept, no_maps, maps_of, entries_from, entries_of, lattice_of}
 use Rattle.lat_core.proofs.MapCounts.{not_smaller}
-use Rattle.lat_core.proofs.KeptMaps.{lattice_get, or_else, or_else_first, find_append, from_same, before_all}
+use Rattle.lat_core.proofs.KeptMaps.{lattice_get, or_else_first, find_append, from_same, before_all}
 
 abbrev pub AreApart : {K X : Type 0} → (K → K → Ordering) → List (K × X) → Type 0
 AreApart R [] = Unit {0}

@@ -1,24 +1,23 @@
 -- A request to a compatible lattice has at most one reply, and leaves at most one lattice.
-use Rattle.std.proofs.Common.{◌≡◌, ◌⊎◌, ⊎_elim, ℕ, ◌+◌, ◌<◌, ◌≤◌, List, length, slice_index, slice_index_or, refl, sym, ap, ◌∙◌, subst, arith, Option, Some, None, Ordering, Less, true}
+use Rattle.std.proofs.Common.{◌≡◌, ⊎_elim, ℕ, ◌+◌, List, length, refl, sym, ap, ◌∙◌, subst, arith, Option, Some, true}
 use Rattle.std.specs.Ordering.{nat_cmp}
 use Rattle.std.proofs.lemmas.Bool.{cases_order}
 use Rattle.std.specs.FinMap.{len}
 use Rattle.alg_model.specs.Coefficients.{residues}
-use Rattle.alg_model.specs.Factors.{IsIrreducible, IsLeastFactor}
-use Rattle.alg_model.specs.Lattices.{Edition, Lattice, Row, no_row, field_at, IsRows, IsCompatible}
+use Rattle.alg_model.specs.Factors.{IsLeastFactor}
+use Rattle.alg_model.specs.Lattices.{Edition, Lattice, no_row, field_at, IsRows, IsCompatible}
 use Rattle.alg_model.specs.Candidates.{embedding_by, IsChoice, AreMissing}
 use Rattle.alg_model.specs.Filling.{IsFilled}
 use Rattle.alg_compatible.proofs.Laws.{choice_one_law, missing_one_law, filling_one_law, declaring_one_law}
 use Rattle.alg_compatible.proofs.Choices.{not_before}
 use Rattle.ff_field.specs.SmallFields.{IsFirstTooLarge}
 use Rattle.lat_core.specs.declared.tagged.Sending.{Sending}
-use Rattle.lat_core.specs.declared.requests.Request.{Request}
 use Rattle.lat_core.specs.declared.requests.Request.TheVariants.{Declare, Embed, Sync}
 use Rattle.lat_core.specs.declared.replies.StepRefusal.{StepRefusal}
 use Rattle.lat_core.specs.declared.replies.StepRefusal.TheVariants.{CoefficientTooLarge, NameTaken, Reducible, TooManyFields, WrongField}
 use Rattle.lat_core.specs.declared.replies.Reply.{Reply}
 use Rattle.lat_core.specs.declared.replies.Reply.TheVariants.{Declared, Embedded, Refused}
-use Rattle.lat_core.specs.Step.{IsNamed, IsFreeName, IsWellFormed, IsMalformed, declared_row, Declares, IsWrongTag, ArePrescribed, prescribed_values, AreEmbeddable, EmbedsField, Embeds, Steps}
+use Rattle.lat_core.specs.Step.{IsNamed, IsWellFormed, IsMalformed, declared_row, Declares, IsWrongTag, ArePrescribed, prescribed_values, EmbedsField, Embeds}
 use Rattle.lat_core.specs.Step.IsMalformed.{not_in_table, degree_out_of_range, coefficient_too_large, not_monic}
 use Rattle.lat_core.specs.Step.IsWrongTag.{of_value, of_image}
 use Rattle.lat_core.specs.Step.Declares.{malformed, already, taken, reducible, full, declared}

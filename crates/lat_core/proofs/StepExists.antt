@@ -1,26 +1,23 @@
 -- Each request to a compatible lattice has a reply.
-use Rattle.std.proofs.Common.{◌≡◌, ◌≢◌, ◌⊎◌, inl, inr, ⊎_elim, ℕ, ◌+◌, ◌-◌, ◌<◌, ◌≤◌, List, [], ◌∷◌, length, slice_index, slice_index_or, refl, ap, sym, ◌∙◌, subst, arith, true, false, Option, Some, None, cond, is_some}
+use Rattle.std.proofs.Common.{◌≡◌, ◌≢◌, ◌⊎◌, inl, inr, ⊎_elim, ℕ, ◌+◌, ◌-◌, ◌≤◌, List, [], ◌∷◌, length, slice_index, refl, ap, arith, true, false, Option, Some, None, is_some}
 use Rattle.std.specs.FinMap.{len, get}
 use Rattle.std.proofs.lemmas.Bool.{cases_lt, cases_eq}
-use Prim.Native.Nat.{◌∣◌}
-use Rattle.alg_model.specs.Maps.{Field, IsFiniteField, degree_of}
+use Rattle.alg_model.specs.Maps.{Field, degree_of}
 use Rattle.alg_model.specs.Factors.{IsIrreducible}
 use Rattle.alg_model.specs.Coefficients.{residues}
-use Rattle.alg_model.specs.Lattices.{Lattice, Row, no_row, field_at, Stored, Grows, IsRow, IsCompatible}
-use Rattle.alg_model.specs.Candidates.{embedding_by, IsCandidate, AreMissing}
+use Rattle.alg_model.specs.Lattices.{Lattice, field_at, Grows, IsRow, IsCompatible}
+use Rattle.alg_model.specs.Candidates.{IsCandidate, AreMissing}
 use Rattle.alg_rings.proofs.Decisions.{divides_or_not, lists_equal_or_not, both_or_not}
 use Rattle.alg_compatible.specs.Theorems.{AreFields}
 use Rattle.alg_compatible.proofs.Laws.{missing_law, choice_law, filling_exists_law, filling_law, declaring_exists_law}
 use Rattle.alg_compatible.proofs.Tables.{pair_total}
 use Rattle.lat_core.specs.Names.{IsDeclaredName}
 use Rattle.lat_core.specs.declared.tagged.Sending.{Sending}
-use Rattle.lat_core.specs.declared.requests.Request.{Request}
 use Rattle.lat_core.specs.declared.requests.Request.TheVariants.{Declare, Embed, Sync}
-use Rattle.lat_core.specs.declared.replies.StepRefusal.TheVariants.{NameTaken, Reducible, TooManyFields, UnknownField, DifferentCharacteristic, DegreeDoesNotDivide, WrongField, NoCompatibleRoot}
+use Rattle.lat_core.specs.declared.replies.StepRefusal.TheVariants.{NameTaken, Reducible, TooManyFields, UnknownField, WrongField, NoCompatibleRoot}
 use Rattle.lat_core.specs.declared.replies.Reply.{Reply}
 use Rattle.lat_core.specs.declared.replies.Reply.TheVariants.{Declared, Embedded, Synced, Refused}
-use Rattle.lat_core.specs.Step.{IsNamed, IsFreeName, IsWellFormed, declared_row, Declares, prescribed_values, AreEmbeddable, EmbedsField, Embeds, Steps, IsProperRequest}
-use Rattle.lat_core.specs.Step as step
+use Rattle.lat_core.specs.Step.{IsWellFormed, declared_row, Declares, prescribed_values, AreEmbeddable, EmbedsField, Embeds}
 use Rattle.lat_core.specs.Theorems.{RequestHasReply}
 use Rattle.lat_core.proofs.Decisions.{named_or_free, malformed_or_well_formed, irreducible_or_factored, prime_of, wrong_or_prescribed, candidate_or_none}
 use Rattle.lat_core.proofs.MapCounts.{not_smaller}

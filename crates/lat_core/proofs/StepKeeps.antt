@@ -1,19 +1,17 @@
 -- What a request leaves is compatible and has grown; a refusal leaves what was there.
 use Rattle.std.proofs.Common.{◌≡◌, ℕ, ◌+◌, ◌≤◌, List, length, refl, sym, ap, ◌∙◌, subst, arith, length-append, Option, None}
 use Rattle.std.proofs.lemmas.List.{take_all}
-use Rattle.alg_model.specs.Lattices.{Lattice, Grows, IsRows, IsCompatible}
-use Rattle.alg_model.specs.Candidates.{AreMissing}
+use Rattle.alg_model.specs.Lattices.{Lattice, Grows, IsCompatible}
 use Rattle.alg_compatible.specs.Theorems.{AreFields}
 use Rattle.alg_compatible.proofs.Laws.{declaring_law, declaring_rows_law, filling_law, filling_rows_law, missing_one_law, plain_law}
 use Rattle.lat_core.specs.Names.{IsDeclaredName}
 use Rattle.lat_core.specs.declared.tagged.Sending.{Sending}
-use Rattle.lat_core.specs.declared.requests.Request.{Request}
 use Rattle.lat_core.specs.declared.requests.Request.TheVariants.{Declare, Embed, Sync}
 use Rattle.lat_core.specs.declared.replies.StepRefusal.{StepRefusal}
 use Rattle.lat_core.specs.declared.replies.StepRefusal.TheVariants.{NoCompatibleRoot}
 use Rattle.lat_core.specs.declared.replies.Reply.{Reply}
 use Rattle.lat_core.specs.declared.replies.Reply.TheVariants.{Refused}
-use Rattle.lat_core.specs.Step.{IsNamed, declared_row, Declares, prescribed_values, EmbedsField, Embeds, Steps, IsProperRequest}
+use Rattle.lat_core.specs.Step.{declared_row, Declares, prescribed_values, EmbedsField, Embeds}
 use Rattle.lat_core.specs.Step.Declares.{malformed, already, taken, reducible, full, declared}
 use Rattle.lat_core.specs.Step.EmbedsField.{different_characteristic, degree_does_not_divide, wrong_field, full as no_room, no_candidate, embedded}
 use Rattle.lat_core.specs.Step.Embeds.{unknown_source, unknown_target, known}

@@ -3,6 +3,7 @@ pub mod Editions
 pub mod Names
 pub mod NumberLists
 pub mod PrivateLattices
+pub mod PrivateOpening
 pub mod SharedRows
 pub mod Step
 pub mod Theorems

@@ -7,7 +7,7 @@
 --     with_rows L rows maps   L with these rows after its own, and these maps put in
 --     AreBetween rows maps    each map goes between the fields of its numbers
 --     no_rows edition         the lattice with no rows and no maps
-use Rattle.std.specs.Prelude.{◌≡◌, ℕ, List, [], ◌∷◌, ◌++◌, slice_index_or, All, Option, Some}
+use Rattle.std.specs.Prelude.{◌≡◌, ℕ, List, [], ◌∷◌, ◌++◌, slice_index_or, All, Some}
 use Rattle.std.specs.Option.{option_map}
 use Rattle.std.specs.Ordering.{nat_cmp}
 use Rattle.std.specs.FinMap.{FinMap, get, insert, empty, len}

@@ -5,6 +5,7 @@ ghost use Rattle.std.specs.Bool.{OnFalse};
 ghost use Rattle.std.specs.List.{sum_by};
 ghost use Rattle.std.specs.FinMap.{get, len};
 ghost use Rattle.alg_model.specs.Lattices.{no_row, field_at, Stored, IsCompatible};
+ghost use Rattle.alg_model.specs.Declaring.{IsOpening};
 ghost use Rattle.lat_core.specs.Editions.{edition_of};
 ghost use Rattle.lat_core.specs.SharedRows.{RowMaps, IsBetween, IsRowOf, map_count, with_rows, no_rows, AreBetween};
 ghost use Rattle.lat_core.specs.PrivateLattices.{row_with, rows_with, new_row};
@@ -14,6 +15,7 @@ ghost use Rattle.lat_core.specs.Step.{IsNamed, IsFreeName};
 use crate::editions::Edition;
 use crate::memory::NoMemory;
 use crate::names::FieldName;
+use crate::opening::{identities, prime_fields};
 use crate::rows::{FieldRow, MapRow};
 use crate::shared_rows::SharedRow;
 use ff_embed::Embedding;
@@ -45,6 +47,16 @@ impl Model for Lattice {
 }
 
 impl Lattice {
+    /// The opening lattice of an edition: its prime fields, and their identities.
+    pub fn open(alloc: Global, edition: Edition) -> Result<Lattice, NoMemory>
+        ensures edition { IfOk result (λ lattice. lattice.edition ≡ edition_of edition) }
+        ensures opening { IfOk result IsOpening }
+    {
+        let fields = prime_fields(alloc, edition)?;
+        let maps = identities(alloc, fields.as_slice())?;
+        Lattice::of_rows(alloc, edition, fields, maps)
+    }
+
     /// The edition.
     pub fn edition(&self) -> Edition
         ensures value { edition_of result ≡ self.now.edition }

@@ -9,6 +9,7 @@ mod laws;
 mod memory;
 mod names;
 mod number_lists;
+mod opening;
 mod outcomes;
 mod questions;
 mod replies;

@@ -1,13 +1,14 @@
 //! Names of fields.
 
 ghost use Rattle.std.specs.Prelude.{◌≡◌, ◌<◌, IsTrue, ◌↔◌, SomeIff};
-ghost use Rattle.alg_model.specs.Lattices.{made_name};
+ghost use Rattle.alg_model.specs.Lattices.{made_name, prime_row};
 ghost use Rattle.lat_core.specs.declared.TheConstants.{MAX_FIELDS};
 ghost use Rattle.lat_core.specs.Names.{IsNameByte, IsDeclaredName, IsFieldName};
 
 use crate::MAX_FIELDS;
 use arrayvec::ArrayVec;
 use ff_lists::fixed;
+use ff_poly::Prime;
 use itoa::Buffer;
 use std::marker::Model;
 
@@ -94,6 +95,20 @@ impl FieldName {
         let mut bytes = ArrayVec::new();
         bytes.push(b'_');
         match bytes.try_extend_from_slice(buffer.format(number).as_bytes()) {
+            Ok(()) => FieldName { bytes },
+            Err(_) => unreachable!(),
+        }
+    }
+
+    // The name of the prime field of this characteristic.
+    #[tactic(auto, using(crate::proofs::NameLengths::prime_fits, crate::proofs::NameLengths::prime_named))]
+    pub(crate) fn of_prime(p: Prime) -> FieldName
+        ensures { result ≡ (prime_row p).name }
+    {
+        let mut buffer = Buffer::new();
+        let mut bytes = ArrayVec::new();
+        bytes.push(b'F');
+        match bytes.try_extend_from_slice(buffer.format(u32::from(p.number())).as_bytes()) {
             Ok(()) => FieldName { bytes },
             Err(_) => unreachable!(),
         }

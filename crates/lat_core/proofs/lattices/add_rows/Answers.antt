@@ -1,4 +1,4 @@
-use Rattle.std.proofs.Common.{◌≡◌, ◌∷◌, [], ◌∙◌, ap, sym, map, length, length-append, refl, arith, rules}
+use Rattle.std.proofs.Common.{◌≡◌, ◌∷◌, [], ◌∙◌, ap, map, length, length-append, arith, rules}
 use Rattle.lat_core.specs.PrivateLattices.{new_row}
 use Rattle.lat_core.proofs.GrownRows.{pushed_row}
 use Rattle.lat_core.proofs.lattices.add_rows.Goals as goal

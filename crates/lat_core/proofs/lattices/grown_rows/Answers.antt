@@ -1,7 +1,7 @@
-use Rattle.std.proofs.Common.{◌∙◌, ap, ap₂, sym, map, length, ◌++◌, ◌+◌, arith}
+use Rattle.std.proofs.Common.{◌∙◌, ap₂, sym, map, ◌++◌, arith}
 use Rattle.std.proofs.lemmas.List.{length-map}
 use Rattle.lat_core.specs.PrivateLattices.{new_row, rows_with}
-use Rattle.lat_core.proofs.GrownRows.{rows_with_append, rows_with_length, grown_length}
+use Rattle.lat_core.proofs.GrownRows.{rows_with_append, grown_length}
 use Rattle.lat_core.proofs.lattices.grown_rows.Goals as goal
 
 pub add_rows-requires : goal.add_rows-requires

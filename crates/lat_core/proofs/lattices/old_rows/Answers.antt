@@ -1,4 +1,4 @@
-use Rattle.std.proofs.Common.{[], ◌∙◌, ap, map, refl, arith}
+use Rattle.std.proofs.Common.{[], ◌∙◌, ap, map, arith}
 use Rattle.lat_core.proofs.GrownRows.{pushed_row}
 use Rattle.lat_core.proofs.lattices.old_rows.Goals as goal
 

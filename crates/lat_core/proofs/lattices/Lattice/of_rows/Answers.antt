@@ -1,4 +1,4 @@
-use Rattle.std.proofs.Common.{◌≡◌, ◌∙◌, ap, map, ◌++◌}
+use Rattle.std.proofs.Common.{◌∙◌, map, ◌++◌}
 use Rattle.lat_core.specs.Editions.{edition_of}
 use Rattle.lat_core.specs.PrivateLattices.{rows_with, new_row}
 use Rattle.lat_core.proofs.GrownRows.{lattice_of_rows}
