@@ -10,4 +10,6 @@ mod field_polynomials;
 mod field_values;
 #[cfg(test)]
 mod hand_examples;
+#[cfg(test)]
+mod lattices;
 pub mod trial_division;
