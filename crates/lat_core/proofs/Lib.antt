@@ -1,6 +1,7 @@
 pub mod NameLengths
 pub mod Openings
 pub mod GrownRows
+pub mod HistoryLaws
 pub mod KeptMaps
 pub mod Decisions
 pub mod MapCounts

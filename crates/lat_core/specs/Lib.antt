@@ -1,5 +1,7 @@
+pub mod Answers
 pub mod Digits
 pub mod Editions
+pub mod Histories
 pub mod Names
 pub mod NumberLists
 pub mod PrivateLattices

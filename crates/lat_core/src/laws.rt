@@ -2,7 +2,8 @@
 
 ghost use Rattle.lat_core.specs.Theorems.{RequestHasReply, RequestHasOneReply};
 ghost use Rattle.lat_core.specs.Theorems.{RequestKeepsCompatible, RefusalChangesNothing};
-ghost use Rattle.lat_core.specs.Theorems.{PlainEmbeddingIsFound};
+ghost use Rattle.lat_core.specs.Theorems.{PlainEmbeddingIsFound, HistoryHasOneLattice};
+ghost use Rattle.lat_core.specs.Theorems.{HistoryKeepsCompatible};
 
 /// Each request to a compatible lattice has one reply, and leaves one lattice.
 pub fn requests_have_one_reply()
@@ -19,4 +20,10 @@ pub fn requests_keep_compatible()
 /// An embedding for which nothing is prescribed is never refused for want of a candidate.
 pub fn plain_embeddings_are_found()
     ensures found { PlainEmbeddingIsFound }
+{}
+
+/// A history leads to one lattice, which is compatible.
+pub fn histories_lead_to_one_lattice()
+    ensures determined { HistoryHasOneLattice }
+    ensures compatible { HistoryKeepsCompatible }
 {}
