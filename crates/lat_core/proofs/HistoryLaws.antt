@@ -1,5 +1,5 @@
 -- A history leads to one lattice, which is compatible and has grown.
-use Rattle.std.proofs.Common.{◌≡◌, ℕ, ◌≤◌, List, [], ◌∷◌, ◌++◌, length, take, refl, sym, ap, ◌∙◌, subst, arith, length-take}
+use Rattle.std.proofs.Common.{◌≡◌, ◌≤◌, List, [], ◌∷◌, ◌++◌, length, take, refl, sym, ap, ◌∙◌, subst, arith, length-take}
 use Rattle.std.proofs.lemmas.List.{take-take}
 use Rattle.alg_model.specs.Lattices as lattices
 use Rattle.alg_model.specs.Lattices.{Lattice, Grows, IsEdition, IsCompatible}
@@ -22,17 +22,17 @@ grows_twice {L} {M} {N} G H = record {
     fewer = omega (arith, length-take (length L.rows) M.rows, ap length G.rows)
 
 -- one part after another
-pub leads_append : (xs ys : List Entry) {L M N : Lattice} → Leads L xs M → Leads M ys N
+pub leads_append : (xs ys : List Entry) (L M N : Lattice) → Leads L xs M → Leads M ys N
     → Leads L (xs ++ ys) N
-leads_append [] ys {N = N} e h = subst (λ K. Leads K ys N) e h
-leads_append (x ∷ xs) ys (K, proper, s, h) k = (K, proper, s, leads_append xs ys h k)
+leads_append [] ys L M N e h = subst (λ K. Leads K ys N) e h
+leads_append (x ∷ xs) ys L M N (K, proper, s, h) k = (K, proper, s, leads_append xs ys K M N h k)
 
 -- and back
-pub leads_split : (xs ys : List Entry) {L N : Lattice} → Leads L (xs ++ ys) N
+pub leads_split : (xs ys : List Entry) (L N : Lattice) → Leads L (xs ++ ys) N
     → (M : Lattice) × Leads L xs M × Leads M ys N
-leads_split [] ys {L} h = (L, refl, h)
-leads_split (x ∷ xs) ys (K, proper, s, h) =
-    let (M, first, rest) = leads_split xs ys h in (M, (K, proper, s, first), rest)
+leads_split [] ys L N h = (L, refl, h)
+leads_split (x ∷ xs) ys L N (K, proper, s, h) =
+    let (M, first, rest) = leads_split xs ys K N h in (M, (K, proper, s, first), rest)
 
 pub leads_keeps : (entries : List Entry) {L M : Lattice} → IsCompatible L → Leads L entries M
     → IsCompatible M × Grows L M

@@ -1,3 +1,4 @@
+pub mod AddedMaps
 pub mod NameLengths
 pub mod Openings
 pub mod GrownRows

@@ -1,6 +1,6 @@
 -- Prime fields with their identities are the opening lattice of their edition.
-use Rattle.std.proofs.Common.{◌≡◌, ◌≢◌, ◌⊎◌, ⊎_elim, inl, inr, ℕ, zero, suc, ◌+◌, ◌<◌, List, [], ◌∷◌, ◌++◌, map, take, length, slice_index_or, refl, sym, ap, ap₂, ◌∙◌, subst, cond, true, false, Bool, arith, Option, Some, None, length-take, Result, Ok, Err}
-use Rattle.std.specs.Prelude.{Contains, SomeIff, IsSome, IfOk}
+use Rattle.std.proofs.Common.{◌≡◌, ◌≢◌, ◌⊎◌, ⊎_elim, inl, inr, ℕ, zero, suc, ◌+◌, ◌<◌, List, [], ◌∷◌, ◌++◌, map, take, length, slice_index_or, refl, sym, ap, ap₂, ◌∙◌, subst, cond, true, false, Bool, arith, Option, Some, None, length-take}
+use Rattle.std.specs.Prelude.{Contains, SomeIff, IsSome}
 use Rattle.std.specs.Cmp.{unsigned_tied}
 use Rattle.std.specs.Ordering.{nat_cmp, eq_by_cmp, is_eq}
 use Rattle.std.specs.FinMap.{FinMap, get, insert, empty, get-empty, get-insert}

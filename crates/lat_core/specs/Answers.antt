@@ -5,7 +5,7 @@
 --                             question each, by one constructor a case in the order in which they
 --                             are decided
 --     Answers L question answer     the answer to a question that fits
-use Rattle.std.specs.Prelude.{◌≡◌, ◌≢◌, ◌↔◌, ℕ, ◌<◌, ◌≤◌, List, length, slice_index_or, AllPairs, Contains}
+use Rattle.std.specs.Prelude.{◌≡◌, ◌↔◌, ℕ, ◌<◌, ◌≤◌, List, length, slice_index_or, AllPairs, Contains}
 use Rattle.alg_model.specs.Maps.{field_values, degree_of, generator, apply, IsMeet}
 use Rattle.alg_model.specs.Roots.{IsMinimal, IsMinimalOver}
 use Rattle.alg_model.specs.Lattices.{Lattice, no_row, field_at, Stored}

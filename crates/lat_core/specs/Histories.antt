@@ -8,7 +8,7 @@
 --     IsPlaced old new request reply place     a change of this session was entered
 --     IsUnplaced old new       others' entries were told, and no change was entered
 --     IsRefusedBy new fault    why not
-use Rattle.std.specs.Prelude.{◌≡◌, ℕ, ◌+◌, ◌<◌, ◌≤◌, ◌==◌, Bool, true, List, [], ◌∷◌, ◌++◌, length, filter}
+use Rattle.std.specs.Prelude.{◌≡◌, ℕ, ◌+◌, ◌<◌, ◌==◌, Bool, true, List, [], ◌∷◌, ◌++◌, length, filter}
 use Rattle.alg_model.specs.Lattices as lattices
 use Rattle.alg_model.specs.Lattices.{Lattice}
 use Rattle.alg_model.specs.Declaring.{IsOpening}
