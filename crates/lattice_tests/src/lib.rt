@@ -15,5 +15,7 @@ mod field_values;
 #[cfg(test)]
 mod hand_examples;
 #[cfg(test)]
+mod lattices;
+#[cfg(test)]
 mod minimal_polynomials;
 pub mod trial_division;
