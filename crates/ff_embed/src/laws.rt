@@ -1,0 +1,9 @@
+//! Laws of embeddings: a function that does nothing, whose clauses are the laws.
+ghost use Rattle.ff_embed.specs.Theorems.{EndsAreFinite, MapThroughIsDetermined};
+
+/// The ends of what an `Embedding` is seen as are finite fields, and at most one map gives another
+/// one when an embedding follows it.
+pub fn embeddings_are_determined()
+    ensures ends { EndsAreFinite }
+    ensures through { MapThroughIsDetermined }
+{}
