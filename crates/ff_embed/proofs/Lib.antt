@@ -1,0 +1,2 @@
+pub mod ColumnTables
+pub mod Undoing

@@ -1,5 +1,5 @@
 //! Matrices of residues as their columns, in a table of constant width.
-ghost use Rattle.std.specs.Prelude.{◌≡◌, ℕ, ◌+◌, ◌%◌, ◌<◌, ◌≤◌, [], ◌∷◌, ◌++◌, All, length, replicate, slice_index, slice_index_or};
+ghost use Rattle.std.specs.Prelude.{◌≡◌, ℕ, ◌+◌, ◌%◌, ◌<◌, ◌≤◌, [], ◌∷◌, ◌++◌, All, length, slice_index, slice_index_or};
 ghost use Rattle.alg_model.specs.Coefficients.{residues, mod_ops};
 ghost use Rattle.alg_model.specs.Matrices.{matrix_apply, matrix_product, identity_matrix, unit_column, IsColumn, IsIndependent};
 ghost use Rattle.ff_matrix.specs.ModularMatrix.{IsModularMatrix};
@@ -83,6 +83,7 @@ impl Columns {
         ensures value { result.now ≡ slice_index_or self.now.matrix.columns k [] }
         ensures column { IsColumn (residues self.now.prime) self.now.matrix.rows result.now }
     {
+        let _count = self.columns();
         let row = &self.table[k];
         &row[..self.rows]
     }
@@ -223,11 +224,13 @@ fn blank_table() -> [[u8; MAX_DEGREE]; MAX_DEGREE]
     [[0; MAX_DEGREE]; MAX_DEGREE]
 }
 
-// Zeros.
-fn blank_row() -> [u8; MAX_DEGREE]
-    ensures { result ≡ replicate MAX_DEGREE 0 }
+// W zeros.
+fn blank_row<const W: usize>() -> [u8; W]
+    requires { W ≤ MAX_DEGREE }
+    ensures len { length result ≡ W }
+    ensures blank { (k : ℕ) → slice_index result k ≡ 0 }
 {
-    [0; MAX_DEGREE]
+    [0; W]
 }
 
 // The digits, with zeros after them.
@@ -239,7 +242,7 @@ fn row_of(p: Prime, digits: &[u8]) -> [u8; MAX_DEGREE]
     ensures places { (k : ℕ) → slice_index result k ≡ slice_index digits.now k }
 {
     let _number = p.number();
-    let mut row = blank_row();
+    let mut row = blank_row::<MAX_DEGREE>();
     for k in 0..digits.len() {
         row[k] = digits[k];
     }
@@ -253,7 +256,7 @@ fn unit_row(p: Prime, k: usize) -> [u8; MAX_DEGREE]
     ensures unit { result ≡ unit_column (mod_ops p) MAX_DEGREE k }
 {
     let _number = p.number();
-    let mut row = blank_row();
+    let mut row = [0; MAX_DEGREE];
     row[k] = 1;
     row
 }

@@ -1,0 +1,5 @@
+use Rattle.ff_embed.proofs.Undoing.{through_determined}
+use Rattle.ff_embed.proofs.laws.embeddings_are_determined.Goals as goal
+
+pub returns-clause-through : goal.returns-clause-through
+returns-clause-through c = through_determined
