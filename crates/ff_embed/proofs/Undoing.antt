@@ -249,7 +249,7 @@ pub ends_finite : (e : FieldMap) → IsSmallEmbedding e
 ends_finite e S = (S.source.finite, S.target.finite)
 
 -- maps with equal parts
-same_maps : (a b : FieldMap) → a.source ≡ b.source → a.target ≡ b.target → a.images ≡ b.images
+pub same_maps : (a b : FieldMap) → a.source ≡ b.source → a.target ≡ b.target → a.images ≡ b.images
     → a ≡ b
 same_maps a b s t i = ap (λ x. record { source = x; target = a.target; images = a.images }) s
     ∙ ap₂ (λ y z. record { source = b.source; target = y; images = z }) t i

@@ -1,5 +1,5 @@
 //! Embeddings of finite fields.
-ghost use Rattle.std.specs.Prelude.{◌≡◌, ◌<◌, length};
+ghost use Rattle.std.specs.Prelude.{◌≡◌, ◌<◌};
 ghost use Rattle.alg_model.specs.Maps.{degree_of};
 ghost use Rattle.ff_embed.specs.SmallEmbeddings.{IsSmallEmbedding};
 
@@ -42,7 +42,7 @@ impl Model for Embedding {
 }
 
 impl Embedding {
-    ghost use Rattle.ff_embed.specs.PrivateMaps.{IsKept, IsUndone};
+    ghost use Rattle.ff_embed.specs.PrivateMaps.{IsMap, IsKept, IsUndone};
 
     // The embedding between the fields of these polynomials with this matrix, which the other one
     // undoes.
@@ -147,7 +147,7 @@ impl Embedding {
     pub(crate) fn inverse(&self) -> &Columns
         ensures prime { result.now.prime ≡ self.now.source.characteristic }
         ensures rows { result.now.matrix.rows ≡ degree_of self.now.source }
-        ensures columns { length result.now.matrix.columns ≡ degree_of self.now.target }
+        ensures back { IsMap self.now.target self.now.source result.now.matrix.columns }
         ensures undone { IsUndone self.now result.now.matrix.columns }
         ensures whole { IsSmallEmbedding self.now }
     {

@@ -1,6 +1,5 @@
 //! The embedding that a root gives.
-ghost use Rattle.std.specs.Prelude.{◌≡◌, ◌↔◌, ◌≤◌, All, IsTrue, IsSome, IfSome};
-ghost use Rattle.alg_model.specs.Coefficients.{residues};
+ghost use Rattle.std.specs.Prelude.{◌≡◌, ◌↔◌, ◌<◌, ◌≤◌, All, IsSome, IfSome};
 ghost use Rattle.alg_model.specs.Polynomials.{evaluate};
 ghost use Rattle.alg_model.specs.Maps.{field_values, degree_of, constants, powers};
 ghost use Rattle.alg_model.specs.Roots.{IsRoot};
@@ -42,14 +41,16 @@ fn by_powers(from: &Field, into: &Field, v: &Value) -> Embedding
     ensures images { result.images ≡ powers into.now v.now (degree_of from.now) }
     ensures whole { IsSmallEmbedding result }
 {
+    let _target = into.degree();
     let images = power_columns(into, v, from.degree() as usize);
     let inverse = images.left_inverse();
+    let _prime = inverse.prime();
     Embedding::of_parts(from.poly().copy(), into.poly().copy(), images, inverse)
 }
 
 // The value at v of the polynomial whose coefficients are these residues, by Horner's rule.
 fn value_at(field: &Field, f: &[u8], v: &Value) -> Value
-    requires residues { All (residues field.now.characteristic).Valid f.now }
+    requires residues { All (λ c. c < field.now.characteristic) f.now }
     requires point { (field_values field.now).Valid v.now }
     ensures value { result ≡ evaluate (field_values field.now).ops (constants field.now f.now) v.now }
     ensures valid { (field_values field.now).Valid result }
@@ -74,7 +75,7 @@ fn power_columns(field: &Field, v: &Value, n: usize) -> Columns
 {
     let mut columns = Columns::new(field.prime(), field.degree() as usize);
     let mut power = field.one();
-    for _k in 0..n {
+    'powers: for _k in 0..n {
         columns.push(power.digits());
         power = field.mul(&power, v);
     }

@@ -5,7 +5,11 @@
 #[cfg(test)]
 mod comparisons;
 #[cfg(test)]
+mod embeddings;
+#[cfg(test)]
 mod field_polynomials;
+#[cfg(test)]
+mod field_roots;
 #[cfg(test)]
 mod field_values;
 #[cfg(test)]
