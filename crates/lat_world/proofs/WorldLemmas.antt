@@ -2,7 +2,7 @@
 use Rattle.std.proofs.Common.{◌≡◌, ◌≢◌, ◌↔◌, ℕ, ◌%◌, ap₂, ◌<◌, List, Bool, length, get_or, sym, ap, ◌∙◌, subst, ⊎_elim}
 use Rattle.std.proofs.lemmas.Bool.{cases_order}
 use Rattle.std.proofs.lemmas.List.{get_or_default}
-use Rattle.std.proofs.lemmas.Nat.Gcd.{mod-eq-zero_of_dvd}
+use Rattle.std.proofs.lemmas.Nat.Gcd.{dvd_of_mod-eq-zero, mod-eq-zero_of_dvd}
 use Prim.Native.Nat.{◌∣◌}
 use Rattle.alg_model.specs.Maps.{IsEmbedding}
 use Rattle.alg_galois.proofs.Embeddings.{comp_cancel}
@@ -36,6 +36,10 @@ pub map_of_place : {ns ms : List Member} {a : ℕ} (other : Member) → ns ≡ m
     → (get_or ns a other).map ≡ map_at ms a
 map_of_place {ns} {ms} {a} other e h =
     ap (λ r. r.map) (ap (λ ls. get_or ls a other) e ∙ get_or_default ms a other no_member h)
+
+-- a remainder that is zero
+pub divided : {m n x y : ℕ} → m ≡ x → n ≡ y → m % n ≡ 0 → y ∣ x
+divided {m} {n} {x} {y} e f z = dvd_of_mod-eq-zero y (sym (ap₂ (λ i j. i % j) e f) ∙ z)
 
 -- a remainder that isn't zero
 pub not_divided : {m n x y : ℕ} → m ≡ x → n ≡ y → m % n ≢ 0 → y ∣ x → ⊥

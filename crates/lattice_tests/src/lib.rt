@@ -15,5 +15,3 @@ mod field_values;
 #[cfg(test)]
 mod hand_examples;
 pub mod trial_division;
-#[cfg(test)]
-mod worlds;
