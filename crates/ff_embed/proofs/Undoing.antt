@@ -7,11 +7,11 @@ use Prim.Native.Nat.{◌∣◌}
 use Rattle.alg_model.specs.Coefficients.{mod_ops, residues}
 use Rattle.alg_model.specs.Fields.{IsRing}
 use Rattle.alg_model.specs.Matrices.{Matrix, matrix_apply, matrix_product, identity_matrix, IsColumn, IsMatrix, IsIndependent}
-use Rattle.alg_model.specs.Maps.{Field, IsFiniteField, field_values, degree_of, map_matrix, apply, comp, identity_map, IsEmbedding}
+use Rattle.alg_model.specs.Maps.{Field, IsFiniteField, field_values, degree_of, generator, powers, map_matrix, apply, comp, identity_map, IsEmbedding}
 use Rattle.alg_rings.proofs.Residues.{residues_ring}
 use Rattle.alg_rings.proofs.ResidueFields.{residues_propositional}
 use Rattle.alg_linear.proofs.MatrixEntries
-use Rattle.alg_galois.proofs.Embeddings.{identity_embedding, apply_identity, apply_valid, embedding_injective, embeddings_equal, comp_embedding, apply_comp, comp_cancel}
+use Rattle.alg_galois.proofs.Embeddings.{identity_embedding, apply_identity, apply_valid, embedding_injective, embeddings_equal, embedding_is_powers_of_image, comp_embedding, apply_comp, comp_cancel}
 use Rattle.alg_galois.proofs.EmbeddingRoots.{embedding_through, zero_kept}
 use Rattle.ff_field.proofs.SmallFieldLaws.{values_field}
 use Rattle.ff_embed.specs.SmallEmbeddings.{FieldMap, IsSmallEmbedding}
@@ -253,6 +253,21 @@ pub same_maps : (a b : FieldMap) → a.source ≡ b.source → a.target ≡ b.ta
     → a ≡ b
 same_maps a b s t i = ap (λ x. record { source = x; target = a.target; images = a.images }) s
     ∙ ap₂ (λ y z. record { source = b.source; target = y; images = z }) t i
+
+-- **the image of the generator determines an embedding**
+pub image_determines : (a b : FieldMap) → IsSmallEmbedding a → IsSmallEmbedding b
+    → a.source ≡ b.source → a.target ≡ b.target
+    → apply a.target a.images (generator a.source) ≡ apply b.target b.images (generator b.source)
+    → a ≡ b
+image_determines a b A B s t e =
+    let v = apply a.target a.images (generator a.source) in
+    same_maps a b s t
+    (embedding_is_powers_of_image a.source a.target A.source.finite A.target.finite a.images
+    A.embedding
+    ∙ ap₂ (λ (T S : Field). powers T v (degree_of S)) t s
+    ∙ ap (λ w. powers b.target w (degree_of b.source)) e
+    ∙ sym (embedding_is_powers_of_image b.source b.target B.source.finite B.target.finite b.images
+    B.embedding))
 
 -- **one map alone is another one when an embedding follows it**
 pub through_determined : (j : FieldMap) → IsSmallEmbedding j → (a b : FieldMap)

@@ -15,9 +15,11 @@ struct Example {
     root: &'static [u8],
     value: &'static [u8],
     image: &'static [u8],
+    outside: &'static [u8],
 }
 
-// The root of the first polynomial in the second field is the image of the generator.
+// The root of the first polynomial in the second field is the image of the generator. What stands
+// outside the image is the image and the generator of the second field together.
 const EXAMPLES: [Example; 3] = [
     Example {
         p: 3,
@@ -26,6 +28,7 @@ const EXAMPLES: [Example; 3] = [
         root: &[1, 0],
         value: &[2],
         image: &[2, 0],
+        outside: &[2, 1],
     },
     Example {
         p: 31,
@@ -39,6 +42,9 @@ const EXAMPLES: [Example; 3] = [
         value: &[8, 7],
         image: &[
             24, 14, 26, 14, 30, 2, 15, 24, 15, 2, 22, 20, 1, 9, 10, 7, 8, 7, 7, 7, 19, 8, 20, 28,
+        ],
+        outside: &[
+            24, 15, 26, 14, 30, 2, 15, 24, 15, 2, 22, 20, 1, 9, 10, 7, 8, 7, 7, 7, 19, 8, 20, 28,
         ],
     },
     Example {
@@ -66,11 +72,16 @@ const EXAMPLES: [Example; 3] = [
             20, 53, 27, 38, 45, 13, 29, 45, 23, 22, 0, 52, 57, 52, 17, 47, 6, 45, 52, 35, 49, 50,
             43, 22, 9, 47,
         ],
+        outside: &[
+            20, 49, 53, 55, 54, 9, 48, 38, 26, 7, 53, 54, 27, 27, 12, 21, 37, 34, 47, 11, 9, 13,
+            20, 53, 27, 38, 45, 13, 29, 45, 23, 22, 0, 52, 57, 52, 17, 47, 6, 45, 52, 35, 49, 50,
+            43, 22, 9, 47,
+        ],
     },
 ];
 
 // The embedding that sends the generator to the value with these digits.
-fn embedded(rt: &impl Abort, from: &Field, into: &Field, root: &[u8]) -> Embedding
+pub(crate) fn embedded(rt: &impl Abort, from: &Field, into: &Field, root: &[u8]) -> Embedding
     ensures source { result.source ≡ from.now }
     ensures target { result.target ≡ into.now }
 {
@@ -105,7 +116,7 @@ fn images_and_preimages(rt: HostRuntime) {
         let image = map.apply(&value_of(&rt, &from, row.value));
         assert_eq!(rt; image.digits(), row.image);
         assert!(rt; is_value(&map.preimage(&image), row.value));
-        let outside = into.add(&image, &into.generator());
+        let outside = value_of(&rt, &into, row.outside);
         assert!(rt; map.preimage(&outside).is_none());
     }
 }

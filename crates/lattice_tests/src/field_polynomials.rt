@@ -120,7 +120,7 @@ pub(crate) fn poly_of(rt: &impl Abort, field: &Field, digits: Digits) -> PolyX
 }
 
 // Whether the coefficients have these digits.
-fn has_digits(f: &PolyX, digits: Digits) -> bool {
+pub(crate) fn has_digits(f: &PolyX, digits: Digits) -> bool {
     let coefficients = f.coefficients();
     if coefficients.len() != digits.len() {
         return false;

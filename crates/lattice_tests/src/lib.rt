@@ -14,4 +14,6 @@ mod field_roots;
 mod field_values;
 #[cfg(test)]
 mod hand_examples;
+#[cfg(test)]
+mod minimal_polynomials;
 pub mod trial_division;

@@ -6,8 +6,11 @@ use Rattle.ff_embed.proofs.roots.power_columns.Goals as goal
 
 pub push-requires-clause-room : goal.push-requires-clause-room
 push-requires-clause-room c =
-    omega (arith, ap length c.powers.invariant.columns,
-    length-map-range_with_len (power (field_values c.args.field.now).ops c.args.v.now) 0 c.powers._k)
+    omega (
+      arith,
+      ap length c.powers.invariant.columns,
+      length-map-range_with_len (power (field_values c.args.field.now).ops c.args.v.now) 0 c.powers._k,
+    )
 
 pub powers-preserved : goal.powers-preserved
 powers-preserved c =

@@ -8,8 +8,11 @@ use Rattle.ff_embed.proofs.columns.Columns.identity.Goals as goal
 
 pub push-requires-clause-room : goal.push-requires-clause-room
 push-requires-clause-room c =
-    omega (arith, ap length c.loop-k.invariant.columns,
-    length-map-range_with_len (unit_column (mod_ops c.args.p) c.args.n) 0 c.loop-k.k)
+    omega (
+      arith,
+      ap length c.loop-k.invariant.columns,
+      length-map-range_with_len (unit_column (mod_ops c.args.p) c.args.n) 0 c.loop-k.k,
+    )
 
 pub loop-k-preserved : goal.loop-k-preserved
 loop-k-preserved c = record {

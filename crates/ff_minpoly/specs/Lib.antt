@@ -1,0 +1,2 @@
+pub mod PrivateRelations
+pub mod PrivateSpans
