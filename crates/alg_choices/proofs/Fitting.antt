@@ -1,8 +1,9 @@
 -- A value is a candidate exactly if it is a root of the polynomial of E that agrees at enough
 -- common subfields and sends what is prescribed.
-use Rattle.std.proofs.Common.{◌≡◌, ◌⊎◌, ◌↔◌, ℕ, zero, suc, ◌+◌, ◌-◌, ◌*◌, ◌<◌, ◌≤◌, List, length, ap, sym, ◌∙◌, subst, inl, inr, ⊎_elim, arith, Option, Equal, nat_cmp}
+use Rattle.std.proofs.Common.{◌≡◌, ◌⊎◌, ◌↔◌, ℕ, zero, suc, ◌+◌, ◌-◌, ◌*◌, ◌<◌, ◌≤◌, List, length, ap, sym, ◌∙◌, subst, inl, inr, ⊎_elim, arith, Option, Equal, Greater, nat_cmp}
 use Rattle.std.proofs.lemmas.Bool.{cases_eq, cases_lt}
 use Rattle.std.proofs.Math.Nat.{mul-le-mul_right}
+use Rattle.std.specs.Ordering.{ordering_reverse}
 use Rattle.std.proofs.lemmas.Cmp.{nat_cmp_total, tied_itself}
 use Rattle.std.proofs.lemmas.Nat.Gcd.{le_of_dvd}
 use Rattle.alg_model.specs.Maps.{Field, IsFiniteField, degree_of, generator, constants, apply, comp, identity_map, IsEmbedding}
@@ -20,8 +21,13 @@ use Rattle.alg_rings.proofs.Decisions.{Least, search_below, both_or_not}
 use Rattle.alg_choices.specs.Fitting.{IsCommonSubfield, AgreesAt, Fits, AreSufficient, IsCovered}
 use Rattle.alg_choices.proofs.Restrictions.{embedding_of_degree_one}
 
+-- of two values one at most comes before the other
+pub not_before_back : (v w : List ℕ) → IsBefore v w → IsBefore w v → ⊥
+not_before_back v w a b =
+    let e : order_by nat_cmp w v ≡ Greater = (order_by_total nat_cmp_total).antisymm w v ∙ ap ordering_reverse a in cc
+
 -- no value comes before itself
-not_before_itself : (w : List ℕ) → IsBefore w w → ⊥
+pub not_before_itself : (w : List ℕ) → IsBefore w w → ⊥
 not_before_itself w b = let e : order_by nat_cmp w w ≡ Equal = tied_itself (order_by_total nat_cmp_total) w in cc
 
 further : (x y n c d : ℕ) → x < y → c < n → x * n + c < y * n + d

@@ -1,20 +1,47 @@
 -- A polynomial whose roots are the candidates, made in steps; its least root is the choice.
-use Rattle.std.proofs.Common.{◌≡◌, ◌↔◌, ℕ, ◌+◌, List, length, ap, sym, ◌∙◌, subst, ⊎_elim, arith, Option, Some, None}
+use Rattle.std.proofs.Common.{◌≡◌, ◌↔◌, ℕ, zero, suc, ◌+◌, ◌<◌, List, [], length, get_or, refl, ap, sym, ◌∙◌, subst, ⊎_elim, arith, Option, Some, None, AllPairs}
 use Rattle.std.specs.Prelude.{MatchOption}
+use Rattle.std.specs.List.{Contains}
 use Rattle.std.proofs.lemmas.Bool.{cases_eq}
+use Rattle.std.proofs.lemmas.List.{get_or_default}
+use Rattle.std.proofs.lemmas.List.Elements.{Contains-get_or}
 use Prim.Native.Nat.{◌∣◌}
-use Rattle.alg_model.specs.Maps.{field_values, degree_of, constants, comp}
-use Rattle.alg_model.specs.Roots.{IsRoot, IsLeastRoot}
+use Rattle.alg_model.specs.Polynomials.{evaluate}
+use Rattle.alg_model.specs.Maps.{Field, field_values, degree_of, generator, constants, apply, comp, IsEmbedding}
+use Rattle.alg_model.specs.Roots.{IsRoot, IsBefore, IsLeastRoot}
 use Rattle.alg_model.specs.Lattices.{Lattice, field_at, Stored, IsCompatible}
-use Rattle.alg_model.specs.Candidates.{embedding_by, IsSent, IsCandidate, IsChoice}
+use Rattle.alg_model.specs.Candidates.{map_sending, embedding_by, IsSent, IsCandidate, IsChoice}
 use Rattle.alg_galois.proofs.EmbeddingRoots.{embedding_of_root, least_root_exists}
 use Rattle.alg_compatible.specs.Theorems.{AreFields}
 use Rattle.alg_compatible.proofs.Transfer.{stored_one}
 use Rattle.alg_compatible.proofs.Candidates.{plain_candidate}
 use Rattle.alg_choices.specs.Restrictions.{Extends, IsRestriction, prescription, IsPrescription}
-use Rattle.alg_choices.specs.Fitting.{AgreesAt, Fits, AreSufficient, Passed, Selects, AreRestrictions, AreZeros, AreGiven}
+use Rattle.alg_choices.specs.Fitting.{AgreesAt, Fits, AreSufficient, Passed, IsSelection, Selects, Narrows, AreRestrictions, AreZeros, AreGiven}
 use Rattle.alg_choices.proofs.Restrictions.{prescription_is}
-use Rattle.alg_choices.proofs.Fitting.{finite_at, fits_candidate}
+use Rattle.alg_choices.proofs.Fitting.{finite_at, not_before_itself, not_before_back, fits_candidate}
+
+-- common roots with one polynomial more
+pub narrowed : (F : Field) (Z : List ℕ → Type 0) (g h k : List (List ℕ))
+    → ((w : List ℕ) → IsRoot F k w ↔ (IsRoot F g w × IsRoot F h w)) → (w : List ℕ)
+    → (Z w × IsRoot F k w) ↔ ((Z w × IsRoot F g w) × IsRoot F h w)
+narrowed F Z g h k both w = (
+  λ (z, r). let (a, b) = (both w).0 r in ((z, a), b),
+  λ ((z, a), b). (z, (both w).1 (a, b)),
+)
+
+-- the clause of a polynomial for a common subfield, as a record
+pub restriction_from : {E F : Field} {sub into g : List (List ℕ)}
+    → ((v : List ℕ) → (field_values F).Valid v
+    → (evaluate (field_values F).ops g v ≡ (field_values F).ops.zero)
+    ↔ (IsEmbedding E F (map_sending E F v) × (apply F (map_sending E F v) (generator E) ≡ v)
+    × (comp F sub (map_sending E F v) ≡ into)))
+    → IsRestriction E F sub into g
+restriction_from exactly = record {
+  exactly = λ v valid. (
+    λ z. let (e, g, f) = (exactly v valid).0 z in record { embedding = e; generator = g; followed = f },
+    λ x. (exactly v valid).1 (x.embedding, x.generator, x.followed),
+  );
+}
 
 module _ {L : Lattice} {E F : ℕ} where
   -- ---- the choice
@@ -41,6 +68,27 @@ module _ {L : Lattice} {E F : ℕ} where
         (λ v. IsChoice L E F sending v)
     choice_or_none None h = none_from_roots.0 h
     choice_or_none (Some v) h = (choice_from_roots v).0 h
+
+  -- ---- the choice from a list
+  module _ {sending : Option (List ℕ × List ℕ)} (vs : List (List ℕ)) (rising : AllPairs IsBefore vs)
+      (exactly : (w : List ℕ) → Contains vs w ↔ IsCandidate L E F sending w) where
+    -- **the first of the rising list of the candidates is the choice**
+    pub choice_from_list : (d : List ℕ) → 0 < length vs → IsChoice L E F sending (get_or vs 0 d)
+    choice_from_list d h = record {
+      candidate = (exactly (get_or vs 0 d)).0 (Contains-get_or vs 0 d h);
+      first = λ w c b. later w ((exactly w).1 c) b;
+    }
+      where
+        later : (w : List ℕ) → Contains vs w → IsBefore w (get_or vs 0 d) → ⊥
+        later w (zero, l, e) b = not_before_itself w
+            (subst (λ v. IsBefore w v) (get_or_default vs 0 d w h ∙ e) b)
+        later w (suc k, l, e) b = not_before_back (get_or vs 0 d) w
+            (subst (λ v. IsBefore (get_or vs 0 d) v) (get_or_default vs (suc k) d w l ∙ e)
+            (rising 0 (suc k) d (omega arith) l)) b
+
+    -- where it is empty there is no candidate
+    pub none_from_list : length vs ≡ 0 → (w : List ℕ) → IsCandidate L E F sending w → ⊥
+    none_from_list e w c = let (k, l, f) = (exactly w).1 c in omega arith
 
   -- **where nothing is prescribed, it has a least root**
   pub plain_root_exists : IsCompatible L → AreFields L E F
@@ -82,16 +130,25 @@ module _ {L : Lattice} {E F : ℕ} where
         exactly = λ w. (λ r. record { root = r; agrees = λ d (l, n). absurd (omega arith); sent = tt }, λ f. f.root);
       }
 
-      module _ {i : ℕ} {g : List (List ℕ)} (G : Selects L E F needed i None g) where
+      -- or the zero polynomial, where roots of the polynomial of E are looked for
+      pub narrows_all : Narrows L E F needed 0 None []
+      narrows_all = record {
+        exactly = λ w. (
+          λ (r, z). record { root = r; agrees = λ d (l, n). absurd (omega arith); sent = tt },
+          λ f. (f.root, (f.root.0, refl)),
+        );
+      }
+
+      module _ {i : ℕ} {R : List ℕ → Type 0} (G : IsSelection L E F needed i None R) where
         -- a needed common subfield, by the common roots with its restriction
-        pub selects_common : {m n h k : List (List ℕ)} → needed i → Stored L i E m → Stored L i F n
+        pub selects_common : {m n h : List (List ℕ)} {T : List ℕ → Type 0} → needed i
+            → Stored L i E m → Stored L i F n
             → IsRestriction (field_at L.rows E) (field_at L.rows F) m n h
-            → ((w : List ℕ) → IsRoot (field_at L.rows F) k w
-            ↔ (IsRoot (field_at L.rows F) g w × IsRoot (field_at L.rows F) h w))
-            → Selects L E F needed (i + 1) None k
-        selects_common {m} {n} {h} {k} need x y H both = record { exactly = λ w. (to w, from w) }
+            → ((w : List ℕ) → T w ↔ (R w × IsRoot (field_at L.rows F) h w))
+            → IsSelection L E F needed (i + 1) None T
+        selects_common {m} {n} {h} {T} need x y H both = record { exactly = λ w. (to w, from w) }
           where
-            to : (w : List ℕ) → IsRoot (field_at L.rows F) k w
+            to : (w : List ℕ) → T w
                 → Fits L E F (Passed L E F needed (i + 1)) None w
             to w r =
                 let (a, b) = (both w).0 r in
@@ -106,7 +163,7 @@ module _ {L : Lattice} {E F : ℕ} where
                 }
 
             from : (w : List ℕ) → Fits L E F (Passed L E F needed (i + 1)) None w
-                → IsRoot (field_at L.rows F) k w
+                → T w
             from w f = (both w).1 (
               (G.exactly w).1 (record { root = f.root; agrees = λ d (l, z). f.agrees d (omega arith, z); sent = tt }),
               (f.root.0, (H.exactly w f.root.0).1 (extends f.root (f.agrees i (omega arith, need)) x y)),
@@ -115,7 +172,7 @@ module _ {L : Lattice} {E F : ℕ} where
         -- any other field is passed over where it isn't needed, or agrees anyhow
         pub selects_other : (needed i → (w : List ℕ) → Fits L E F (Passed L E F needed i) None w
             → AgreesAt L E F w i)
-            → Selects L E F needed (i + 1) None g
+            → IsSelection L E F needed (i + 1) None R
         selects_other anyhow = record {
           exactly = λ w. (
             λ r. let f = (G.exactly w).0 r in record {
@@ -131,11 +188,10 @@ module _ {L : Lattice} {E F : ℕ} where
         }
 
         -- a prescribed pair, by the common roots with its polynomial
-        pub selects_sent : {a b : List ℕ} {h k : List (List ℕ)}
+        pub selects_sent : {a b : List ℕ} {h : List (List ℕ)} {T : List ℕ → Type 0}
             → IsPrescription (field_at L.rows E) (field_at L.rows F) a b h
-            → ((w : List ℕ) → IsRoot (field_at L.rows F) k w
-            ↔ (IsRoot (field_at L.rows F) g w × IsRoot (field_at L.rows F) h w))
-            → Selects L E F needed i (Some (a, b)) k
+            → ((w : List ℕ) → T w ↔ (R w × IsRoot (field_at L.rows F) h w))
+            → IsSelection L E F needed i (Some (a, b)) T
         selects_sent H both = record {
           exactly = λ w. (
             λ r.
@@ -149,11 +205,11 @@ module _ {L : Lattice} {E F : ℕ} where
           );
         }
 
-      -- **after the last field its roots are the candidates, if the needed fields are enough**
-      pub selects_candidates : {sending : Option (List ℕ × List ℕ)} {g : List (List ℕ)}
-          → Selects L E F needed (length L.rows) sending g
+      -- **after the last field these are the candidates, if the needed fields are enough**
+      pub selects_candidates : {sending : Option (List ℕ × List ℕ)} {R : List ℕ → Type 0}
+          → IsSelection L E F needed (length L.rows) sending R
           → AreSufficient L E F (Passed L E F needed (length L.rows))
-          → (w : List ℕ) → IsRoot (field_at L.rows F) g w ↔ IsCandidate L E F sending w
+          → (w : List ℕ) → R w ↔ IsCandidate L E F sending w
       selects_candidates {sending} G enough w = (
         λ r. (fits_candidate C A same enough sending w).0 ((G.exactly w).0 r),
         λ c. (G.exactly w).1 ((fits_candidate C A same enough sending w).1 c),

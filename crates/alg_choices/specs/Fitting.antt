@@ -14,6 +14,7 @@
 --                                  what is prescribed are zero at v
 --     Selects L E F needed i sending g     the roots of g are the values that agree at each needed
 --                                  field below i and send what is prescribed
+--     Narrows L E F needed i sending g     so are the common roots of g and of the polynomial of E
 --     AreGiven L E F sending       what is prescribed is a value of E and one of F
 use Rattle.std.specs.Prelude.{◌≡◌, ◌≢◌, ◌⊎◌, ◌↔◌, ℕ, ◌<◌, List, Option, MatchOption}
 use Rattle.alg_model.specs.Maps.{field_values, degree_of, comp, constants}
@@ -81,8 +82,18 @@ module _ (L : Lattice) (E F : ℕ) where
   abbrev pub Passed : (ℕ → Type 0) → ℕ → ℕ → Type 0
   Passed needed i d = (d < i) × needed d
 
-  -- g has been made of the polynomials for the needed fields below i and for what is prescribed
-  pub record Selects (needed : ℕ → Type 0) (i : ℕ) (sending : Option (List ℕ × List ℕ))
-      (g : List (List ℕ)) : Type 0 where
-    pub exactly : (w : List ℕ)
-        → IsRoot (field_at L.rows F) g w ↔ Fits (Passed needed i) sending w
+  -- R is true of the values that fit the needed fields below i and what is prescribed, and of no
+  -- others
+  pub record IsSelection (needed : ℕ → Type 0) (i : ℕ) (sending : Option (List ℕ × List ℕ))
+      (R : List ℕ → Type 0) : Type 0 where
+    pub exactly : (w : List ℕ) → R w ↔ Fits (Passed needed i) sending w
+
+  -- the roots of g are these values
+  abbrev pub Selects : (ℕ → Type 0) → ℕ → Option (List ℕ × List ℕ) → List (List ℕ) → Type 0
+  Selects needed i sending g = IsSelection needed i sending (IsRoot (field_at L.rows F) g)
+
+  -- the common roots of g and of the polynomial of E are these values
+  abbrev pub Narrows : (ℕ → Type 0) → ℕ → Option (List ℕ × List ℕ) → List (List ℕ) → Type 0
+  Narrows needed i sending g = IsSelection needed i sending (λ w.
+      IsRoot (field_at L.rows F) (constants (field_at L.rows F) (field_at L.rows E).polynomial) w
+      × IsRoot (field_at L.rows F) g w)
