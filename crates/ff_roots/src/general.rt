@@ -51,7 +51,8 @@ pub fn one_root(field: &Field, g: &PolyX) -> Option<Value>
     if items.is_empty() {
         return None;
     }
-    Some(items[0].copy())
+    let first = 0;
+    Some(items[first].copy())
 }
 
 // Collects the roots of a polynomial that isn't constant.

@@ -1,6 +1,6 @@
 //! Roots of polynomials in fields: examples that were computed with PARI, some by hand, and a search
 //! through all values to compare with.
-ghost use Rattle.std.specs.Prelude.{◌≢◌, ◌≤◌, [], length};
+ghost use Rattle.std.specs.Prelude.{◌≢◌, ◌<◌, ◌≤◌, [], length};
 ghost use Rattle.alg_model.specs.Factors.{IsPolynomial};
 ghost use Rattle.alg_model.specs.Maps.{field_values};
 
@@ -263,27 +263,46 @@ fn agrees_with_search(rt: &impl Abort, field: &Field, size: u32, g: &PolyX) -> b
     found == items.len()
 }
 
-// Polynomials of degree 5 with coefficients all over the field, and y^size - y.
-fn compare_with_search(rt: &impl Abort, field: &Field, size: u32) {
-    assert!(rt; size > 0 && size <= 27);
-    for seed in 0..12 {
-        let mut values: ArrayVec<Value, 8> = ArrayVec::new();
-        for j in 0..5 {
-            values.push(numbered(rt, field, (seed * 31 + j * 7 + 1) % size));
-        }
-        values.push(field.one());
-        let g = PolyX::of_values(field, values.as_slice());
-        assert!(rt; !g.is_zero());
-        assert!(rt; agrees_with_search(rt, field, size, &g));
+// A polynomial of degree 5 over the field.
+fn quintic(rt: &impl Abort, field: &Field, seed: u32) -> PolyX
+    requires { seed < 100 }
+    ensures valid { IsPolynomial (field_values field.now) result }
+    ensures short { length result ≤ 8 }
+{
+    let mut values: ArrayVec<Value, 8> = ArrayVec::new();
+    'coefficients: for j in 0..5 {
+        values.push(numbered(rt, field, seed * 31 + j * 7 + 1));
     }
+    values.push(field.one());
+    PolyX::of_values(field, values.as_slice())
+}
+
+// y^size - y, which vanishes at all values where there are `size`.
+fn of_all_values(field: &Field, size: usize) -> PolyX
+    requires { (1 < size) × (size ≤ 30) }
+    ensures valid { IsPolynomial (field_values field.now) result }
+    ensures short { length result ≤ 32 }
+{
     let mut values: ArrayVec<Value, 32> = ArrayVec::new();
     values.push(field.zero());
     values.push(field.neg(&field.one()));
-    for _k in 2..size {
+    'zeros: for _k in 2..size {
         values.push(field.zero());
     }
     values.push(field.one());
-    let g = PolyX::of_values(field, values.as_slice());
+    PolyX::of_values(field, values.as_slice())
+}
+
+// Twelve polynomials of degree 5, and y^size - y.
+fn compare_with_search(rt: &impl Abort, field: &Field, size: u32)
+    requires { (1 < size) × (size ≤ 30) }
+{
+    for seed in 0..12 {
+        let g = quintic(rt, field, seed);
+        assert!(rt; !g.is_zero());
+        assert!(rt; agrees_with_search(rt, field, size, &g));
+    }
+    let g = of_all_values(field, size as usize);
     assert!(rt; !g.is_zero());
     assert!(rt; agrees_with_search(rt, field, size, &g));
     assert_eq!(rt; roots(field, &g).items().len(), size as usize);
