@@ -22,8 +22,10 @@ mod tagged;
 pub use digits::{Digits, MAX_DIGITS};
 pub use editions::Edition;
 pub use lattices::Lattice;
-pub use laws::{histories_lead_to_one_lattice, plain_embeddings_are_found};
-pub use laws::{requests_have_one_reply, requests_keep_compatible};
+pub use laws::{
+    histories_lead_to_one_lattice, plain_embeddings_are_found, requests_have_one_reply,
+    requests_keep_compatible,
+};
 pub use memory::NoMemory;
 pub use names::{FieldName, MAX_NAME};
 pub use number_lists::NumberList;
