@@ -86,7 +86,8 @@ pub data Declares (L : Lattice) (name : List ℕ) (p : ℕ) (f : List ℕ) : Rep
         → Declares L name p f (Refused refusal) L
     -- a field has the name: this field, or another one
     already : {n : ℕ} → IsWellFormed L.edition p f → IsNamed L n name
-        → field_at L.rows n ≡ (declared_row name p f).field → Declares L name p f (Declared n true) L
+        → field_at L.rows n ≡ (declared_row name p f).field
+        → Declares L name p f (Declared n true) L
     taken : {n : ℕ} → IsWellFormed L.edition p f → IsNamed L n name
         → field_at L.rows n ≢ (declared_row name p f).field
         → Declares L name p f (Refused (NameTaken n)) L

@@ -1,5 +1,5 @@
-//! The lattice of fields and the messages that change it and ask it: requests and replies, questions
-//! and answers, and the lines that a session gives.
+//! The lattice of fields and the messages that change it and ask it: requests and replies,
+//! questions and answers, and the lines that a session gives.
 #![tactic(auto)]
 
 mod digits;
