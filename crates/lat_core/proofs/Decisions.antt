@@ -37,7 +37,7 @@ use Rattle.lat_core.specs.Step.IsWrongTag.{of_value, of_image}
 pub named_or_free : (L : Lattice) (name : List ℕ) → ((n : ℕ) × IsNamed L n name) ⊎ IsFreeName L name
 named_or_free L name = ⊎_elim
     (λ (l : Least (λ n. (slice_index_or L.rows n no_row).name ≡ name) (length L.rows)).
-        inl (l.number, record { within = l.below; named = l.holds }))
+    inl (l.number, record { within = l.below; named = l.holds }))
     (λ none. inr (λ n h. none n h.within h.named))
     (search_below (λ n. (slice_index_or L.rows n no_row).name ≡ name) (length L.rows)
     (λ n h. lists_equal_or_not cases_eq (slice_index_or L.rows n no_row).name name))
@@ -62,13 +62,16 @@ in_range_or_not edition f = ⊎_elim
 pub first_or_none : (p : ℕ) (f : List ℕ)
     → ((place : ℕ) × IsFirstTooLarge p f place) ⊎ All (λ a. a < p) f
 first_or_none p f = ⊎_elim
-    (λ (l : Least (λ k. p ≤ slice_index f k) (length f)). inl (l.number, record {
-      within = l.below;
-      too_large = l.holds;
-      first = λ k h. ⊎_elim (λ s. s) (λ m. absurd (l.least k h m)) (cases_lt (slice_index f k) p);
-    }))
+    (λ (l : Least (λ k. p ≤ slice_index f k) (length f)). inl (
+      l.number,
+      record {
+        within = l.below;
+        too_large = l.holds;
+        first = λ k h. ⊎_elim (λ s. s) (λ m. absurd (l.least k h m)) (cases_lt (slice_index f k) p);
+      },
+    ))
     (λ none. inr (λ k d h. subst (λ a. a < p) (sym (get_or_default_zero f k d h))
-        (⊎_elim (λ s. s) (λ m. absurd (none k h m)) (cases_lt (slice_index f k) p))))
+    (⊎_elim (λ s. s) (λ m. absurd (none k h m)) (cases_lt (slice_index f k) p))))
     (search_below (λ k. p ≤ slice_index f k) (length f)
     (λ k h. ⊎_elim (λ s. inr (λ m. absurd (omega arith))) (λ m. inl m) (cases_lt (slice_index f k) p)))
 
@@ -165,7 +168,7 @@ pub candidate_or_none : {L : Lattice} {E F : ℕ} → IsCompatible L → AreFiel
 candidate_or_none {L} {E} {F} C A same sending = ⊎_elim
     (λ (l : Least (λ i. IsCandidate L E F sending (K.at i).0) _). inl ((K.at l.number).0, l.holds))
     (λ none. inr (λ v c. none (K.index (v, c.value)) (K.index_below (v, c.value))
-        (subst (λ (a : Element (field_values (field_at L.rows F))). IsCandidate L E F sending a.0) (sym (K.at_index (v, c.value))) c)))
+    (subst (λ (a : Element (field_values (field_at L.rows F))). IsCandidate L E F sending a.0) (sym (K.at_index (v, c.value))) c)))
     (search_below (λ i. IsCandidate L E F sending (K.at i).0) _
     (λ i h. candidate_or_not L C.rows C.compatible E F A.source A.target sending same (K.at i).0 (K.at i).1))
   where

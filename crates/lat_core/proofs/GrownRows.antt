@@ -224,9 +224,10 @@ pub grown_kept : (edition : Edition) (rs : List RowMaps) (fs : List Row) (ms : L
     → AreBetween (map (λ r. r.row) rs ++ fs) ms
     → AreKept edition items × (lattice_of edition items ≡ with_rows (lattice_of edition rs) fs ms)
 grown_kept edition rs fs ms items e old C B = subst
-    (λ xs. AreKept edition xs × (lattice_of edition xs ≡ with_rows (lattice_of edition rs) fs ms)) (sym e)
-    (record { compatible = subst IsCompatible (sym (lattice_after edition rs fs ms C)) C; between = λ {i} {j} {e = x} f. between i j x f },
-    lattice_after edition rs fs ms C)
+    (λ xs. AreKept edition xs × (lattice_of edition xs ≡ with_rows (lattice_of edition rs) fs ms)) (sym e) (
+      record { compatible = subst IsCompatible (sym (lattice_after edition rs fs ms C)) C; between = λ {i} {j} {e = x} f. between i j x f },
+      lattice_after edition rs fs ms C,
+    )
   where
     between : (i j : ℕ) (x : FieldMap)
         → get (slice_index_or (after edition rs fs ms) i no_maps).maps j ≡ Some x

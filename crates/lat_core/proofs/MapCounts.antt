@@ -33,9 +33,9 @@ module _ {K X Y : Type 0} {R : K → K → Ordering} (T : IsTotalOrder R) where
       → HasKeys (remove m k) (remove n k)
   removed_keys m n k has q h = ⊎_elim
       (λ tied. let none : contains_key (remove m k) q ≡ false
-          = ap is_some (get-remove T m k q ∙ ap (λ b. cond b None (get m q)) tied) in absurd (let e : true ≡ false = sym h ∙ none in cc))
+      = ap is_some (get-remove T m k q ∙ ap (λ b. cond b None (get m q)) tied) in absurd (let e : true ≡ false = sym h ∙ none in cc))
       (λ apart. ap is_some (get-remove T n k q ∙ ap (λ b. cond b None (get n q)) apart)
-          ∙ has q (sym (ap is_some (get-remove T m k q ∙ ap (λ b. cond b None (get m q)) apart)) ∙ h))
+      ∙ has q (sym (ap is_some (get-remove T m k q ∙ ap (λ b. cond b None (get m q)) apart)) ∙ h))
       (cases_Bool (eq_by_cmp R q k))
 
   not_smaller_at : (c : ℕ) (m : FinMap R X) (n : FinMap R Y) → len m ≡ c → HasKeys m n

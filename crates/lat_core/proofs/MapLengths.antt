@@ -106,7 +106,6 @@ rows_apart (r ∷ rs) b = append_apart b (entries r.maps) (entries_of (suc b) rs
     (sorted_apart (entries r.maps) (told _ (entries_sorted r.maps)))
     (λ j. before_all b j (suc b) rs (omega arith)) (rows_apart rs (suc b))
 
-
 length_of_rows : (rs : List RowMaps) (b : ℕ)
     → length (entries_of b rs) ≡ sum_by (λ r. len r.maps) rs
 length_of_rows [] b = refl

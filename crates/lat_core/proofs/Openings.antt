@@ -132,11 +132,11 @@ module _ (edition : Edition) (rows : List Row) where
       → (i ≡ j) × (j < length rows) × (m ≡ identity_map (field_at rows j))
   only_identities i j m s = ⊎_elim
       (λ both. let found = opened i j m both in let stored : get opening.maps (i, j) ≡ Some m = s.found in
-          (both.0, both.1, let d : Some m ≡ Some (identity_map (field_at rows j)) = sym stored ∙ found in cc))
+      (both.0, both.1, let d : Some m ≡ Some (identity_map (field_at rows j)) = sym stored ∙ found in cc))
       (λ fails. let none : get opening.maps (i, j) ≡ None
-          = identities_miss rows 0 i j empty (λ k h e d. fails (omega (arith, e, d), omega (arith, d, h))) ∙ get-empty pair_cmp (i, j) in
-          let stored : get opening.maps (i, j) ≡ Some m = s.found in
-          absurd (let d : Some m ≡ None = sym stored ∙ none in cc))
+      = identities_miss rows 0 i j empty (λ k h e d. fails (omega (arith, e, d), omega (arith, d, h))) ∙ get-empty pair_cmp (i, j) in
+      let stored : get opening.maps (i, j) ≡ Some m = s.found in
+      absurd (let d : Some m ≡ None = sym stored ∙ none in cc))
       (both_or_not (cases_eq i j) (⊎_elim (λ h. inl h) (λ h. inr (λ k. omega (arith, h, k))) (cases_lt j (length rows))))
 
   -- **the prime fields with their identities are the opening lattice**

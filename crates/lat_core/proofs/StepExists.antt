@@ -75,7 +75,7 @@ declares_exists {L} name p f C proper = ⊎_elim
     (λ irreducible. ⊎_elim
     (λ over. (Refused (TooManyFields (length L.rows) 1), L, Declares.full w free irreducible over))
     (λ room. let (M, D) = declaring_exists_law L (declared_row name p f) C (declared_is_row C proper w irreducible) in
-        (Declared (length L.rows) false, M, Declares.declared w free irreducible room D))
+    (Declared (length L.rows) false, M, Declares.declared w free irreducible room D))
     (cases_lt L.edition.room (length L.rows + 1)))
     (λ (g, h). (Refused (Reducible (record { prime = p; coefficients = g })), L, Declares.reducible w free h))
     (irreducible_or_factored C.rows.of_edition p f w))
@@ -91,8 +91,7 @@ embedded_exists {L} {E} {F} sending degrees v C A fit missing room c =
     let (u, h) = choice_law L E F (prescribed_values sending) v C A c in
     let (M, filled) = filling_exists_law L E F (prescribed_values sending) u C A h.candidate in
     let grows : Grows L M = (filling_law L M E F (prescribed_values sending) u C A h.candidate filled).1 in
-    let more : len L.maps ≤ len M.maps = maps_not_fewer grows in
-    (
+    let more : len L.maps ≤ len M.maps = maps_not_fewer grows in (
       Embedded u (length degrees) (len M.maps - len L.maps),
       M,
       EmbedsField.embedded fit missing room h filled (omega (arith, more)),
@@ -126,7 +125,7 @@ embeds_exists : {L : Lattice} (from into : List ℕ) (sending : Option Sending) 
 embeds_exists {L} from into sending C = ⊎_elim
     (λ (E, h). ⊎_elim
     (λ (F, k). let (reply, M, a) = embeds_field_exists sending C (record { source = h.within; target = k.within }) in
-        (reply, M, Embeds.known h k a))
+    (reply, M, Embeds.known h k a))
     (λ free. (Refused (UnknownField into), L, Embeds.unknown_target h free))
     (named_or_free L into))
     (λ free. (Refused (UnknownField from), L, Embeds.unknown_source free))

@@ -57,8 +57,7 @@ embeds_field_keeps {L} {E} {F} {sending} {M = M} C A (embedded {degrees = degree
     let (compatible, grows) = filling_law L M E F (prescribed_values sending) v C A choice.candidate filled in
     let same : filled.rows.degrees ≡ degrees = missing_one_law L E F filled.rows.degrees degrees filled.rows.missing missing in
     let long : length M.rows ≡ length L.rows + length filled.rows.made = ap length filled.rows.appended ∙ length-append L.rows filled.rows.made in
-    let fits : length M.rows ≤ L.edition.room = omega (arith, long, filled.rows.count, ap length same, room) in
-    (
+    let fits : length M.rows ≤ L.edition.room = omega (arith, long, filled.rows.count, ap length same, room) in (
       record {
         rows = filling_rows_law L M E F (prescribed_values sending) v C A choice.candidate filled
             (subst (λ e. length M.rows ≤ e.room) (sym filled.edition) fits);

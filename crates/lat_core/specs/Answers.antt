@@ -1,9 +1,9 @@
 -- Questions about a lattice, and their answers.
 --     IsTaggedValue L t       t names a field of L, and is a value of it
 --     Fits L question         the numbers of a question are those of fields, and its values theirs
---     AnswersMap, LiftsTo, HasCommon, HasMeet, IsSubfields, HasMinimalOver     the answer to one kind of
---                             question each, by one constructor a case in the order in which they
---                             are decided
+--     AnswersNamed, AnswersMap, LiftsTo, HasCommon, HasMeet, IsSubfields, HasMinimalOver
+--                             the answer to one kind of question each, by one constructor a case
+--                             in the order in which they are decided
 --     Answers L question answer     the answer to a question that fits
 use Rattle.std.specs.Prelude.{◌≡◌, ◌↔◌, ℕ, ◌<◌, ◌≤◌, List, length, slice_index_or, AllPairs, Contains}
 use Rattle.alg_model.specs.Maps.{field_values, degree_of, generator, apply, IsMeet}

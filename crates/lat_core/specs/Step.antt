@@ -81,25 +81,26 @@ declared_row name p f = record {
 }
 
 pub data Declares (L : Lattice) (name : List ℕ) (p : ℕ) (f : List ℕ) : Reply → Lattice → Type 0
-    where
-  malformed : {refusal : StepRefusal} → IsMalformed L.edition p f refusal
-      → Declares L name p f (Refused refusal) L
-  -- a field has the name: this field, or another one
-  already : {n : ℕ} → IsWellFormed L.edition p f → IsNamed L n name
-      → field_at L.rows n ≡ (declared_row name p f).field → Declares L name p f (Declared n true) L
-  taken : {n : ℕ} → IsWellFormed L.edition p f → IsNamed L n name
-      → field_at L.rows n ≢ (declared_row name p f).field
-      → Declares L name p f (Refused (NameTaken n)) L
-  reducible : {g : List ℕ} → IsWellFormed L.edition p f → IsFreeName L name
-      → IsLeastFactor (residues p) nat_cmp f g
-      → Declares L name p f (Refused (Reducible (record { prime = p; coefficients = g }))) L
-  full : IsWellFormed L.edition p f → IsFreeName L name → IsIrreducible (residues p) f
-      → L.edition.room < length L.rows + 1
-      → Declares L name p f (Refused (TooManyFields (length L.rows) 1)) L
-  declared : {M : Lattice} → IsWellFormed L.edition p f → IsFreeName L name
-      → IsIrreducible (residues p) f → length L.rows + 1 ≤ L.edition.room
-      → IsDeclared L (declared_row name p f) M
-      → Declares L name p f (Declared (length L.rows) false) M
+  where
+    malformed : {refusal : StepRefusal} → IsMalformed L.edition p f refusal
+        → Declares L name p f (Refused refusal) L
+    -- a field has the name: this field, or another one
+    already : {n : ℕ} → IsWellFormed L.edition p f → IsNamed L n name
+        → field_at L.rows n ≡ (declared_row name p f).field
+        → Declares L name p f (Declared n true) L
+    taken : {n : ℕ} → IsWellFormed L.edition p f → IsNamed L n name
+        → field_at L.rows n ≢ (declared_row name p f).field
+        → Declares L name p f (Refused (NameTaken n)) L
+    reducible : {g : List ℕ} → IsWellFormed L.edition p f → IsFreeName L name
+        → IsLeastFactor (residues p) nat_cmp f g
+        → Declares L name p f (Refused (Reducible (record { prime = p; coefficients = g }))) L
+    full : IsWellFormed L.edition p f → IsFreeName L name → IsIrreducible (residues p) f
+        → L.edition.room < length L.rows + 1
+        → Declares L name p f (Refused (TooManyFields (length L.rows) 1)) L
+    declared : {M : Lattice} → IsWellFormed L.edition p f → IsFreeName L name
+        → IsIrreducible (residues p) f → length L.rows + 1 ≤ L.edition.room
+        → IsDeclared L (declared_row name p f) M
+        → Declares L name p f (Declared (length L.rows) false) M
 
 -- ---- embedding
 -- t has the number of field i for its tag, and is a value of field i

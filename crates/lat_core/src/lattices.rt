@@ -128,8 +128,8 @@ impl Lattice {
         count_maps(self.rows.as_slice())
     }
 
-    /// The lattice of the edition with these fields and maps. They are compatible, and each map goes
-    /// between the fields of its numbers; of maps for one pair the last one counts.
+    /// The lattice of the edition with these fields and maps. They are compatible, and each map
+    /// goes between the fields of its numbers; of maps for one pair the last one counts.
     pub fn of_rows(
         alloc: Global,
         edition: Edition,
@@ -147,8 +147,8 @@ impl Lattice {
         Ok(Lattice { edition, rows })
     }
 
-    /// This lattice with these fields after its own, and these maps put in. They are compatible, and
-    /// each map goes between the fields of its numbers. Rows that get no map are shared.
+    /// This lattice with these fields after its own, and these maps put in. They are compatible,
+    /// and each map goes between the fields of its numbers. Rows that get no map are shared.
     pub fn grown(&self, fields: &[FieldRow], maps: &[MapRow]) -> Result<Lattice, NoMemory>
         requires compatible { IsCompatible (with_rows self.now fields.now maps.now) }
         requires between { AreBetween (self.now.rows ++ fields.now) maps.now }

@@ -1,5 +1,5 @@
-//! The lattice of fields and the messages that change it and ask it: requests and replies, questions
-//! and answers, and the lines that a session gives.
+//! The lattice of fields and the messages that change it and ask it: requests and replies,
+//! questions and answers, and the lines that a session gives.
 #![tactic(auto)]
 
 mod digits;
@@ -22,8 +22,10 @@ mod tagged;
 pub use digits::{Digits, MAX_DIGITS};
 pub use editions::Edition;
 pub use lattices::Lattice;
-pub use laws::{histories_lead_to_one_lattice, plain_embeddings_are_found};
-pub use laws::{requests_have_one_reply, requests_keep_compatible};
+pub use laws::{
+    histories_lead_to_one_lattice, plain_embeddings_are_found, requests_have_one_reply,
+    requests_keep_compatible,
+};
 pub use memory::NoMemory;
 pub use names::{FieldName, MAX_NAME};
 pub use number_lists::NumberList;

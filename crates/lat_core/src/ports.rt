@@ -23,14 +23,16 @@ pub trait Port {
         requires proper { IsProperRequest request.now }
         ensures placed { IfOk result (λ done.
             IsPlaced (knowledge self.old) (knowledge self.new) request.now done.reply done.place) }
-        ensures unplaced { IfErr result (λ _. IsUnplaced (knowledge self.old) (knowledge self.new)) }
+        ensures unplaced { IfErr result (λ _.
+            IsUnplaced (knowledge self.old) (knowledge self.new)) }
         ensures fault { IfErr result (λ fault. IsRefusedBy (knowledge self.new) fault) }
         ensures known { IsKnowledge (knowledge self.new) }
         ensures borrowed { borrows self.new ≡ borrows self.old };
 
     /// Answers a question that fits the lattice after the entries that are seen. Takes no memory.
     fn read(&self, question: &Question) -> Answer
-        requires fits { (L : Lattice) × IsAfter (knowledge self.now).edition (knowledge self.now).seen L
+        requires fits { (L : Lattice)
+            × IsAfter (knowledge self.now).edition (knowledge self.now).seen L
             × Fits L question.now }
         ensures answer { (L : Lattice)
             → IsAfter (knowledge self.now).edition (knowledge self.now).seen L

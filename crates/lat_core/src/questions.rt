@@ -67,7 +67,10 @@ pub enum Answer {
     /// A polynomial over a field of the lattice.
     RelPoly(PolyX),
     /// The numbers of fields and of maps.
-    Counted { fields: u32, maps: u32 },
+    Counted {
+        fields: u32,
+        maps: u32,
+    },
     /// There is none.
     Refused(CoerceFault),
 }

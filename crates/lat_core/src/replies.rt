@@ -70,7 +70,10 @@ impl StepRefusal {
 #[derive(Drop)]
 pub enum Reply {
     /// The field is declared, under this number; `already` where it was there before.
-    Declared { number: u32, already: bool },
+    Declared {
+        number: u32,
+        already: bool,
+    },
     /// The image of the generator, the number of fields that were added, and the number of maps
     /// that were added.
     Embedded {

@@ -12,8 +12,8 @@ use std::alloc::Global;
 use std::marker::Model;
 use std::sync::Arc;
 
-/// A named field of a lattice, and the maps that are stored from it, by the numbers of the fields in
-/// which they end. Lattices that grow from one another share such rows.
+/// A named field of a lattice, and the maps that are stored from it, by the numbers of the fields
+/// in which they end. Lattices that grow from one another share such rows.
 #[derive(Drop)]
 pub struct SharedRow {
     row: FieldRow,

@@ -3,8 +3,10 @@ ghost use Rattle.std.specs.Prelude.{◌≡◌};
 
 use crate::field_values::{field_of, value_of};
 use ff_poly::Poly;
-use lat_core::{Digits, Edition, Entry, FieldName, FieldRow, Lattice, MapRow, NumberList};
-use lat_core::{Reply, Request, Sending, SharedRow, StepRefusal, Tagged};
+use lat_core::{
+    Digits, Edition, Entry, FieldName, FieldRow, Lattice, MapRow, NumberList, Reply, Request,
+    Sending, SharedRow, StepRefusal, Tagged,
+};
 use std::process::Abort;
 use std::test::Fail;
 
@@ -94,7 +96,8 @@ fn is_refused(entry: &Entry, factor: &[u8]) -> bool {
         from,
         into,
         sending: Some(sending),
-    } = &entry.request else {
+    } = &entry.request
+    else {
         return false;
     };
     entry.session == 3

@@ -12,6 +12,10 @@ loop-field-preserved c =
           c.loop-field.grown.items c.in_ok-row_made.field-0 (length c.args.grown.now.items) c.loop-field.field-index
           c.len-number.result c.args.maps.now c.loop-field.invariant.rows c.loop-field-test.true c.field-item.is
           (number ∙ c.loop-field.invariant.count) c.in_ok-row_made.ensures;
-      count = omega (arith, ap length c.in_ok-push.ensures.items, length-append c.loop-field.grown.items (c.in_ok-row_made.field-0 ∷ []),
-          c.loop-field.invariant.count);
+      count = omega (
+        arith,
+        ap length c.in_ok-push.ensures.items,
+        length-append c.loop-field.grown.items (c.in_ok-row_made.field-0 ∷ []),
+        c.loop-field.invariant.count,
+      );
     }
