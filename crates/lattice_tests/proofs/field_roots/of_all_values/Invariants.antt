@@ -1,4 +1,4 @@
-use Rattle.std.proofs.Common.{◌≡◌, ◌≤◌, length, All}
+use Rattle.std.proofs.Common.{◌≡◌, length, All}
 use Rattle.alg_model.specs.Maps.{field_values}
 use Rattle.lattice_tests.proofs.field_roots.of_all_values.Given as goal
 
