@@ -63,6 +63,15 @@ impl Value {
         }
     }
 
+    /// The value with exactly these digits, lowest first. Of which field it is a value, their
+    /// number and their size decide.
+    pub fn of_digits(c: &[u8]) -> Value
+        requires { length c.now ≤ MAX_DEGREE }
+        ensures { result ≡ c.now }
+    {
+        Value { digits: fixed(c) }
+    }
+
     // The numbers c, and zeros after them up to n places.
     pub(crate) fn padded(c: &[u8], n: usize) -> Value
         requires fits { n ≤ MAX_DEGREE }

@@ -89,8 +89,8 @@ impl Matrix {
         self.columns.items().len()
     }
 
-    // The columns, in order.
-    pub(crate) fn items(&self) -> &[Column]
+    /// The columns, in order.
+    pub fn items(&self) -> &[Column]
         ensures value { result.now ≡ self.now.matrix.columns }
         ensures whole { IsModularMatrix self.now }
     {

@@ -1,6 +1,6 @@
 //! Arithmetic of fields: examples that were computed with PARI, and some by hand over 2 modulo
 //! 1 + x + x^4, and over 5 modulo 3 + x, where x is 2.
-ghost use Rattle.std.specs.Prelude.{◌+◌, ◌<◌, ◌≤◌, length};
+ghost use Rattle.std.specs.Prelude.{◌≡◌, ◌+◌, ◌<◌, ◌≤◌, length};
 ghost use Rattle.alg_model.specs.Coefficients.{residues};
 ghost use Rattle.alg_model.specs.Factors.{IsMonic};
 ghost use Rattle.alg_model.specs.Maps.{field_values};
@@ -210,8 +210,9 @@ const EXAMPLES: [Example; 6] = [
     },
 ];
 
-// The monic polynomial with these coefficients.
-fn monic(rt: &impl Abort, p: u32, c: &[u8]) -> Poly
+/// The monic polynomial with these coefficients.
+pub(crate) fn monic(rt: &impl Abort, p: u32, c: &[u8]) -> Poly
+    ensures prime { result.prime ≡ p }
     ensures monic { IsMonic (residues result.prime) result.coefficients }
     ensures not_constant { 1 < length result.coefficients }
     ensures degree { length result.coefficients ≤ MAX_DEGREE + 1 }
@@ -226,7 +227,9 @@ fn monic(rt: &impl Abort, p: u32, c: &[u8]) -> Poly
 }
 
 /// The field with this characteristic and this polynomial.
-pub(crate) fn field_of(rt: &impl Abort, p: u32, c: &[u8]) -> Field {
+pub(crate) fn field_of(rt: &impl Abort, p: u32, c: &[u8]) -> Field
+    ensures { result.characteristic ≡ p }
+{
     let f = monic(rt, p, c);
     match judge(&f) {
         Verdict::Irreducible(_) => Field::new(f),

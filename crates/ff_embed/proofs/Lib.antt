@@ -1,0 +1,3 @@
+pub mod ColumnTables
+pub mod KeptMaps
+pub mod Undoing

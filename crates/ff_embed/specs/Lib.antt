@@ -1,0 +1,4 @@
+pub mod PrivateColumns
+pub mod PrivateMaps
+pub mod SmallEmbeddings
+pub mod Theorems
