@@ -13,7 +13,6 @@
 --     Steps L request reply M         the reply to a request, and the lattice afterwards
 use Rattle.std.specs.Prelude.{◌≡◌, ◌≢◌, ℕ, ◌+◌, ◌<◌, ◌≤◌, true, false, List, length, slice_index_or, All, Contains, Option, Some, MatchOption}
 use Rattle.std.specs.Option.{option_map}
-use Rattle.lat_core.specs.SharedRows.{map_count}
 use Rattle.std.specs.Ordering.{nat_cmp}
 use Prim.Native.Nat.{◌∣◌}
 use Rattle.alg_model.specs.Coefficients.{residues}
@@ -26,6 +25,7 @@ use Rattle.alg_model.specs.Filling.{IsFilled}
 use Rattle.alg_model.specs.Declaring.{IsDeclared}
 use Rattle.ff_field.specs.SmallFields.{IsFirstTooLarge}
 use Rattle.lat_core.specs.Names.{IsDeclaredName}
+use Rattle.lat_core.specs.SharedRows.{map_count}
 use Rattle.lat_core.specs.declared.tagged.Tagged.{Tagged}
 use Rattle.lat_core.specs.declared.tagged.Sending.{Sending}
 use Rattle.lat_core.specs.declared.requests.Request.{Request}
@@ -80,6 +80,8 @@ declared_row name p f = record {
   field = record { characteristic = p; polynomial = f };
 }
 
+-- what is wrong with p and f; else whether the name is taken; else whether the polynomial has a
+-- factor; else whether there is room; else the field is declared under the next number
 pub data Declares (L : Lattice) (name : List ℕ) (p : ℕ) (f : List ℕ) : Reply → Lattice → Type 0
   where
     malformed : {refusal : StepRefusal} → IsMalformed L.edition p f refusal
@@ -123,17 +125,21 @@ abbrev pub prescribed_values : Option Sending → Option (List ℕ × List ℕ)
 prescribed_values sending = option_map (λ s. (s.value.value, s.image.value)) sending
 
 module _ (L : Lattice) (E F : ℕ) where
+  -- what an embedding of field E into field F needs
   abbrev pub HaveOneCharacteristic : Type 0
   HaveOneCharacteristic = (field_at L.rows E).characteristic ≡ (field_at L.rows F).characteristic
 
   abbrev pub HaveDividingDegrees : Type 0
   HaveDividingDegrees = degree_of (field_at L.rows E) ∣ degree_of (field_at L.rows F)
 
+  -- both, and a prescribed pair is one of the two fields
   pub record AreEmbeddable (sending : Option Sending) : Type 0 where
     pub characteristic : HaveOneCharacteristic
     pub degrees : HaveDividingDegrees
     pub prescribed : ArePrescribed L E F sending
 
+  -- the first of these that fails; else whether there is room for the missing degrees; else whether
+  -- there is a candidate; else the choice
   pub data EmbedsField (sending : Option Sending) : Reply → Lattice → Type 0 where
     different_characteristic : ¬ HaveOneCharacteristic
         → EmbedsField sending (Refused (DifferentCharacteristic
@@ -159,6 +165,7 @@ module _ (L : Lattice) (E F : ℕ) where
         → map_count M ≡ map_count L + linked
         → EmbedsField sending (Embedded v (length degrees) linked) M
 
+-- the first name that no field has; else the embedding of the named fields
 pub data Embeds (L : Lattice) (from into : List ℕ) (sending : Option Sending)
     : Reply → Lattice → Type 0 where
   unknown_source : IsFreeName L from → Embeds L from into sending (Refused (UnknownField from)) L
@@ -168,6 +175,7 @@ pub data Embeds (L : Lattice) (from into : List ℕ) (sending : Option Sending)
       → EmbedsField L E F sending reply M → Embeds L from into sending reply M
 
 -- ---- requests
+-- the reply to a request, and the lattice that it leaves
 abbrev pub Steps : Lattice → Request → Reply → Lattice → Type 0
 Steps L (Declare name p f) reply M = Declares L name p f reply M
 Steps L (Embed from into sending) reply M = Embeds L from into sending reply M
