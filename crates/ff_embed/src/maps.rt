@@ -1,6 +1,6 @@
 //! What an embedding gives for a value, and which values it comes from.
-ghost use Rattle.std.specs.Prelude.{◌≡◌, ◌↔◌, IsSome, IfSome};
-ghost use Rattle.alg_model.specs.Maps.{field_values, generator, apply, identity_map};
+ghost use Rattle.std.specs.Prelude.{◌≡◌, ◌↔◌, ◌<◌, [], IsSome, IfSome, slice_index_or};
+ghost use Rattle.alg_model.specs.Maps.{field_values, degree_of, generator, apply, identity_map};
 ghost use Rattle.ff_embed.specs.SmallEmbeddings.{IsSmallEmbedding, IsInImage};
 
 use crate::Embedding;
@@ -34,6 +34,15 @@ impl Embedding {
             return self.apply(&self.source().generator());
         }
         Value::of_digits(self.images().column(1))
+    }
+
+    /// The image of the generator's power `x^k`, for `k` below the degree.
+    pub fn power_image(&self, k: usize) -> Value
+        requires { k < degree_of self.now.source }
+        ensures value { result ≡ slice_index_or self.now.images k [] }
+        ensures valid { (field_values self.now.target).Valid result }
+    {
+        Value::of_digits(self.images().column(k))
     }
 
     /// The image of a value: the matrix times its digits.

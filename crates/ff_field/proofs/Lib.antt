@@ -3,3 +3,4 @@ pub mod Reductions
 pub mod RemainderRows
 pub mod RowProducts
 pub mod SmallFieldLaws
+pub mod TraceRows

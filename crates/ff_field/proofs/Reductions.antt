@@ -1,9 +1,10 @@
 -- From polynomials over a field to the values modulo a monic f: padding with zeros, and inverses.
 -- Powers by squaring and conjugates, in any ring.
-use Rattle.std.proofs.Common.{◌≡◌, ◌≢◌, ℕ, zero, suc, ◌+◌, ◌-◌, ◌*◌, ◌^◌, ◌<◌, ◌≤◌, List, [], ◌∷◌, ◌++◌, length, replicate, All, ap, ap₂, sym, ◌∙◌, subst, arith, ⊎_elim, eq-or-lt_of_le, pow-suc}
+use Rattle.std.proofs.Common.{◌≡◌, ◌≢◌, ℕ, zero, suc, ◌+◌, ◌-◌, ◌*◌, ◌^◌, ◌<◌, ◌≤◌, List, [], ◌∷◌, ◌++◌, length, replicate, All, ap, ap₂, sym, ◌∙◌, subst, arith, ⊎_elim, eq-or-lt_of_le, pow-suc, pow-add}
 use Rattle.std.proofs.lemmas.List.{length-replicate, length-append}
 use Rattle.std.proofs.lemmas.List.Elements.{All-append, All-replicate, All-nil, All-cons, All-head, All-tail}
 use Rattle.std.proofs.lemmas.List.FromFn.{map-range_with_len_more}
+use native.Mathlib.Nat.{mul_comm, add-zero}
 use Rattle.alg_model.specs.Coefficients.{Ops, Carrier, power}
 use Rattle.alg_model.specs.Polynomials.{trim, poly_sum, poly_product, leading}
 use Rattle.alg_model.specs.Factors.{IsPolynomial, IsMonic, IsDivision, IsGreatestCommonDivisor, IsIrreducible}
@@ -54,7 +55,7 @@ module _ {A : Type 0} {c : Carrier A} (P : IsPropositional c) (R : IsRing c) whe
   power_valid a v (suc n) = R.mul_valid (power c.ops a n) a (power_valid a v n) v
 
   -- ---- sums and products with one member more
-  sum_all_valid : (xs : List A) → All c.Valid xs → c.Valid (sum_all c.ops xs)
+  pub sum_all_valid : (xs : List A) → All c.Valid xs → c.Valid (sum_all c.ops xs)
   sum_all_valid [] v = R.zero_valid
   sum_all_valid (x ∷ xs) v =
       R.add_valid x (sum_all c.ops xs) (All-head c.Valid x xs v)
@@ -88,7 +89,7 @@ module _ {A : Type 0} {c : Carrier A} (P : IsPropositional c) (R : IsRing c) whe
       → conjugates c.ops q (n + 1) a ≡ conjugates c.ops q n a ++ power c.ops a (q ^ n) ∷ []
   conjugates_more q n a = map-range_with_len_more (λ i. power c.ops a (q ^ i)) 0 n n (omega arith)
 
-  conjugates_valid : (q n : ℕ) (a : A) → c.Valid a → All c.Valid (conjugates c.ops q n a)
+  pub conjugates_valid : (q n : ℕ) (a : A) → c.Valid a → All c.Valid (conjugates c.ops q n a)
   conjugates_valid q zero a v = All-nil c.Valid
   conjugates_valid q (suc n) a v =
       let more : suc n ≡ n + 1 = omega arith in
@@ -112,6 +113,50 @@ module _ {A : Type 0} {c : Carrier A} (P : IsPropositional c) (R : IsRing c) whe
   product_of_more q n a v = ap (product_all c.ops) (conjugates_more q n a)
       ∙ product_all_more (conjugates c.ops q n a) (power c.ops a (q ^ n)) (conjugates_valid q n a v)
       (power_valid a v (q ^ n))
+
+  -- the power of a product
+  power_of_product : (a b : A) → c.Valid a → c.Valid b → (n : ℕ)
+      → power c.ops (c.ops.mul a b) n ≡ c.ops.mul (power c.ops a n) (power c.ops b n)
+  power_of_product a b va vb n =
+      let H = underlying_homomorphism R in
+      let o = element_ops R in
+      sym (power-map H (o.mul (a, va) (b, vb)) n)
+      ∙ ap (λ x. x.0) (Powers.power_product (element_laws P R) (a, va) (b, vb) n)
+      ∙ ap₂ c.ops.mul (power-map H (a, va) n) (power-map H (b, vb) n)
+
+  power_of_one : (n : ℕ) → power c.ops c.ops.one n ≡ c.ops.one
+  power_of_one n =
+      let H = underlying_homomorphism R in
+      sym (power-map H (c.ops.one, R.one_valid) n) ∙ ap (λ x. x.0) (Powers.power_of_one (element_laws P R) n)
+
+  -- **the first h conjugates, and k more, which are powers of the first k**
+  pub product_split : (q h k : ℕ) (a : A) → c.Valid a
+      → product_all c.ops (conjugates c.ops q (h + k) a)
+      ≡ c.ops.mul (product_all c.ops (conjugates c.ops q h a))
+      (power c.ops (product_all c.ops (conjugates c.ops q k a)) (q ^ h))
+  product_split q h zero a v =
+      let x = product_all c.ops (conjugates c.ops q h a) in
+      let vx = product_all_valid (conjugates c.ops q h a) (conjugates_valid q h a v) in
+      ap (λ m. product_all c.ops (conjugates c.ops q m a)) (add-zero h)
+      ∙ sym (R.one_mul x vx) ∙ R.mul_comm c.ops.one x R.one_valid vx
+      ∙ ap (c.ops.mul x) (sym (power_of_one (q ^ h)))
+  product_split q h (suc k) a v =
+      let x = product_all c.ops (conjugates c.ops q h a) in
+      let vx = product_all_valid (conjugates c.ops q h a) (conjugates_valid q h a v) in
+      let y = product_all c.ops (conjugates c.ops q k a) in
+      let vy = product_all_valid (conjugates c.ops q k a) (conjugates_valid q k a v) in
+      let z = power c.ops a (q ^ k) in
+      let vz = power_valid a v (q ^ k) in
+      let more : h + suc k ≡ h + k + 1 = omega arith in
+      let next : k + 1 ≡ suc k = omega arith in
+      ap (λ m. product_all c.ops (conjugates c.ops q m a)) more
+      ∙ product_of_more q (h + k) a v
+      ∙ ap₂ c.ops.mul (product_split q h k a v)
+      (ap (power c.ops a) (pow-add q h k ∙ mul_comm (q ^ h) (q ^ k)) ∙ sym (power_of_power a v (q ^ k) (q ^ h)))
+      ∙ R.mul_assoc x (power c.ops y (q ^ h)) (power c.ops z (q ^ h)) vx (power_valid y vy (q ^ h)) (power_valid z vz (q ^ h))
+      ∙ ap (c.ops.mul x) (sym (power_of_product y z vy vz (q ^ h))
+      ∙ ap (λ w. power c.ops w (q ^ h)) (sym (product_of_more q k a v)
+      ∙ ap (λ m. product_all c.ops (conjugates c.ops q m a)) next))
 
   -- the next conjugate
   pub next_conjugate : (q n : ℕ) (a : A) → c.Valid a

@@ -1,5 +1,6 @@
 -- The lemmas on reductions at the fields that contracts speak of.
-use Rattle.std.proofs.Common.{◌≡◌, ◌≢◌, ℕ, suc, ◌+◌, ◌-◌, ◌/◌, ◌%◌, ◌^◌, ◌<◌, ◌≤◌, List, ◌++◌, length, replicate, slice_index, All, ap, sym, ◌∙◌, arith}
+use Rattle.std.proofs.Common.{◌≡◌, ◌≢◌, ℕ, suc, ◌+◌, ◌-◌, ◌*◌, ◌/◌, ◌%◌, ◌^◌, ◌<◌, ◌≤◌, List, ◌++◌, length, replicate, slice_index, All, ap, ap₂, sym, ◌∙◌, arith, pow-suc}
+use native.Mathlib.Nat.{one-mul}
 use Rattle.std.proofs.Math.Nat.{pow-zero}
 use Rattle.alg_model.specs.Coefficients.{Ops, mod_ops, residues, power}
 use Rattle.alg_model.specs.Polynomials.{trim, poly_sum, poly_product}
@@ -94,17 +95,36 @@ module _ (K : Field) (W : IsFiniteField K) where
       ≡ T.add (sum_all T (conjugates T K.characteristic n a)) (power T a (K.characteristic ^ n))
   sum_of_more n a v = Reductions.sum_of_more V values_field.ring K.characteristic n a v
 
-  -- the product with one more
-  pub product_of_more : (n : ℕ) (a : List ℕ) → (field_values K).Valid a
-      → product_all T (conjugates T K.characteristic (n + 1) a)
-      ≡ T.mul (product_all T (conjugates T K.characteristic n a)) (power T a (K.characteristic ^ n))
-  product_of_more n a v = Reductions.product_of_more V values_field.ring K.characteristic n a v
-
   -- the first one
   pub first_conjugate : (a : List ℕ) → (field_values K).Valid a
       → power T a (K.characteristic ^ 0) ≡ a
   first_conjugate a v =
       ap (power T a) (pow-zero K.characteristic) ∙ values_field.ring.one_mul a v
+
+  -- the product of twice as many
+  pub product_of_twice : (h : ℕ) (a : List ℕ) → (field_values K).Valid a
+      → product_all T (conjugates T K.characteristic (h + h) a)
+      ≡ T.mul (product_all T (conjugates T K.characteristic h a))
+      (power T (product_all T (conjugates T K.characteristic h a)) (K.characteristic ^ h))
+  product_of_twice h a v = Reductions.product_split V values_field.ring K.characteristic h h a v
+
+  -- the product of the first alone
+  pub product_of_first : (a : List ℕ) → (field_values K).Valid a
+      → product_all T (conjugates T K.characteristic 1 a) ≡ a
+  product_of_first a v =
+      let x = power T a (K.characteristic ^ 0) in
+      let vx = Reductions.power_valid V values_field.ring a v (K.characteristic ^ 0) in
+      values_field.ring.mul_comm x T.one vx values_field.ring.one_valid
+      ∙ values_field.ring.one_mul x vx ∙ first_conjugate a v
+
+  -- the product with one more
+  pub product_of_next : (k : ℕ) (a : List ℕ) → (field_values K).Valid a
+      → product_all T (conjugates T K.characteristic (1 + k) a)
+      ≡ T.mul a (power T (product_all T (conjugates T K.characteristic k a)) K.characteristic)
+  product_of_next k a v =
+      let one : K.characteristic ^ 1 ≡ K.characteristic = pow-suc p 0 ∙ ap (λ w. w * p) (pow-zero p) ∙ one-mul p in
+      Reductions.product_split V values_field.ring K.characteristic 1 k a v
+      ∙ ap₂ (λ b q. T.mul b (power T (product_all T (conjugates T K.characteristic k a)) q)) (product_of_first a v) one
 
   -- the next one
   pub next_conjugate : (n : ℕ) (a : List ℕ) → (field_values K).Valid a

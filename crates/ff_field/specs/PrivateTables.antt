@@ -9,8 +9,9 @@
 use Rattle.std.specs.Prelude.{◌≡◌, ℕ, zero, suc, ◌+◌, ◌-◌, ◌*◌, ◌%◌, ◌<◌, List, [], length, slice_index, slice_index_or, All}
 use Rattle.alg_model.specs.Coefficients.{power}
 use Rattle.alg_model.specs.Values.{degree}
-use Rattle.ff_residues.specs.SumRows.{IsRowOf}
+use Rattle.ff_residues.specs.SumRows.{IsRowOf, sum_below}
 use Rattle.alg_model.specs.Maps.{Field, field_values, generator, degree_of}
+use Rattle.alg_model.specs.Conjugates.{trace}
 use Rattle.ff_field.specs.SmallFields.{IsSmallField}
 use Rattle.ff_poly.specs.declared.TheConstants.{MAX_DEGREE}
 
@@ -49,6 +50,22 @@ IsFrobenius K = IsTable K.characteristic (degree_of K) (degree_of K)
     (λ i. slice_index (power (field_values K).ops
     (power (field_values K).ops (generator K) K.characteristic) i))
 
-pub record IsKept (K : Field) (frobenius : List (List ℕ)) : Type 0 where
+-- the first n products of the numbers of two lists, added up
+abbrev pub scalar_sum : ℕ → List ℕ → List ℕ → ℕ
+scalar_sum n r a = sum_below n (λ i. slice_index r i * slice_index a i)
+
+-- with the digits of a value the row gives the lowest digit of what `image` makes of the value
+pub record GivesLowest (K : Field) (image : List ℕ → List ℕ) (row : List ℕ) : Type 0 where
+  pub count : length row ≡ MAX_DEGREE
+  pub residues : All (λ x. x < K.characteristic) row
+  pub gives : (a : List ℕ) → (field_values K).Valid a
+      → scalar_sum (degree_of K) row a % K.characteristic ≡ slice_index (image a) 0
+
+-- the traces of 1, x, x^2, ..
+abbrev pub IsTraceRow : Field → List ℕ → Type 0
+IsTraceRow K = GivesLowest K (trace K)
+
+pub record IsKept (K : Field) (frobenius : List (List ℕ)) (traces : List ℕ) : Type 0 where
   pub small : IsSmallField K
   pub frobenius_is : IsFrobenius K frobenius
+  pub traces_are : IsTraceRow K traces

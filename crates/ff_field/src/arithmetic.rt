@@ -113,15 +113,17 @@ impl Field {
 }
 
 // The sum, place by place, with zeros after it.
-fn sum_row(p: Prime, a: &[u8], b: &[u8]) -> [u8; MAX_DEGREE]
+pub(crate) fn sum_row(p: Prime, a: &[u8], b: &[u8]) -> [u8; MAX_DEGREE]
     requires room { length a.now ≤ MAX_DEGREE }
     requires same { length a.now ≡ length b.now }
     requires first { All (λ x. x < p) a.now }
     requires second { All (λ x. x < p) b.now }
     ensures len { length result ≡ MAX_DEGREE }
+    ensures residues { All (λ x. x < p) result }
     ensures places { (k : ℕ) → k < length a.now
         → slice_index result k ≡ (slice_index a.now k + slice_index b.now k) % p }
 {
+    let _number = p.number();
     let mut row = zeros::<MAX_DEGREE>();
     for k in 0..a.len() {
         row[k] = p.add(a[k], b[k]);

@@ -4,10 +4,11 @@ ghost use Rattle.alg_model.specs.Coefficients.{residues};
 ghost use Rattle.alg_model.specs.Factors.{IsMonic, IsIrreducible};
 ghost use Rattle.alg_model.specs.Maps.{degree_of};
 ghost use Rattle.ff_field.specs.SmallFields.{IsSmallField};
-ghost use Rattle.ff_field.specs.PrivateTables.{IsFrobenius};
+ghost use Rattle.ff_field.specs.PrivateTables.{IsFrobenius, IsTraceRow};
 
 use crate::frobenius::frobenius_columns;
 use crate::modulus::Modulus;
+use crate::traces::trace_row;
 use ff_poly::{MAX_DEGREE, Poly, Prime};
 use std::marker::Model;
 
@@ -17,6 +18,7 @@ use std::marker::Model;
 pub struct Field {
     modulus: Modulus,
     frobenius: [[u8; MAX_DEGREE]; MAX_DEGREE],
+    traces: [u8; MAX_DEGREE],
 }
 
 impl Model for Field {
@@ -27,7 +29,7 @@ impl Model for Field {
 
     ghost view = { λ a. a.modulus };
 
-    ghost invariant = { λ a. IsKept a.modulus a.frobenius };
+    ghost invariant = { λ a. IsKept a.modulus a.frobenius a.traces };
 }
 
 impl Field {
@@ -43,7 +45,12 @@ impl Field {
     {
         let modulus = Modulus::new(f);
         let frobenius = frobenius_columns(&modulus);
-        Field { modulus, frobenius }
+        let traces = trace_row(&modulus, &frobenius);
+        Field {
+            modulus,
+            frobenius,
+            traces,
+        }
     }
 
     /// The characteristic.
@@ -86,6 +93,13 @@ impl Field {
         &self.frobenius
     }
 
+    // The traces of 1, x, x^2, ..
+    pub(crate) fn traces(&self) -> &[u8; MAX_DEGREE]
+        ensures { IsTraceRow self.now result.now }
+    {
+        &self.traces
+    }
+
     /// An equal field.
     pub fn copy(&self) -> Field
         ensures same { result ≡ self.now }
@@ -94,6 +108,7 @@ impl Field {
         Field {
             modulus: self.modulus.copy(),
             frobenius: self.frobenius,
+            traces: self.traces,
         }
     }
 }

@@ -31,9 +31,8 @@ impl Field {
             ≡ (field_values self.now).ops.one }
         ensures valid { (field_values self.now).Valid result }
     {
-        let bezout = self.poly_of(a).bezout(self.poly());
-        let _first = bezout.u.prime();
-        let _second = bezout.w.prime();
-        self.reduced(&bezout.u)
+        let cofactor = self.poly_of(a).cofactor(self.poly());
+        let _prime = cofactor.prime();
+        self.reduced(&cofactor)
     }
 }

@@ -14,6 +14,7 @@ mod laws;
 mod modulus;
 mod powers;
 mod tables;
+mod traces;
 mod values;
 
 pub use fields::Field;

@@ -33,14 +33,18 @@ module _ {A : Type 0} (o : Ops A) (L : RingLaws o) where
   multiplied a b u w k = simp (Rings.expanded, L)
 
 module _ {A : Type 0} {c : Carrier A} (P : IsPropositional c) (R : IsRing c) where
+  -- what a sum has beside its first member is the difference
+  pub difference_is : (a m r : List A) → IsPolynomial c a → IsPolynomial c m → IsPolynomial c r
+      → poly_sum c.ops m r ≡ a → r ≡ poly_difference c.ops a m
+  difference_is a m r va vm vr e =
+      ap (λ (f : Polynomial c). f.0) (Rings.sum_to_difference (polynomial_laws P R) (r, vr) (m, vm) (a, va)
+      (same_polynomial P R _ _ (poly_sum_comm P R r m vr.0 vm.0 ∙ e)))
+
   -- what is left is the dividend less the multiple of the divisor
   pub remainder_is : (a b q r : List A) → IsPolynomial c a → IsPolynomial c b → IsDivision c a b q r
       → r ≡ poly_difference c.ops a (poly_product c.ops q b)
   remainder_is a b q r va vb D =
-      let m = poly_product c.ops q b in
-      let vm = poly_product_polynomial P R q b D.quotient vb in
-      ap (λ (f : Polynomial c). f.0) (Rings.sum_to_difference (polynomial_laws P R) (r, D.remainder) (m, vm) (a, va)
-      (same_polynomial P R _ _ (poly_sum_comm P R r m D.remainder.0 vm.0 ∙ D.identity)))
+      difference_is a (poly_product c.ops q b) r va (poly_product_polynomial P R q b D.quotient vb) D.remainder D.identity
 
   -- the divisor and the remainder have the common divisors that dividend and divisor have
   pub gcd_step : (a b q r g : List A) → IsPolynomial c a → IsPolynomial c b → IsDivision c a b q r
@@ -241,6 +245,6 @@ short_step a b u w g v x h q r m n y z k above quotient smaller shorter tm tn ym
         (cases_eq q 0) in
         omega arith
 
-pub short_room : (a b u w g v x h : ℕ) → Short a b u w g v x h → 0 < h → a ≤ 128 → b ≤ 128 → g ≤ 128
-    → (g + 1 - h + v ≤ 129) × (g + 1 - h + x ≤ 129)
-short_room a b u w g v x h k above la lb lg = (omega (arith, k.first_after), omega (arith, k.second_after))
+pub short_room : (n a b u w g v x h : ℕ) → Short a b u w g v x h → 0 < h → a ≤ n → b ≤ n → g ≤ n
+    → (g + 1 - h + v ≤ n + 1) × (g + 1 - h + x ≤ n + 1)
+short_room n a b u w g v x h k above la lb lg = (omega (arith, k.first_after), omega (arith, k.second_after))

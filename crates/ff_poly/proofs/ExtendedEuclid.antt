@@ -139,6 +139,9 @@ module _ (p : ℕ) (a b : List ℕ) (prime : IsCharacteristic p) (va : IsPolynom
     monic_gcd = subst (IsGreatestCommonDivisor (residues p) l.g.coefficients []) (sym made.3)
         (multiple_gcd P F l.g.coefficients k normalizer.inverse last.g not_zero normalizer.residue normalizer.identity normalizer.constant)
 
+    pub monic_second_polynomial : IsPolynomial (residues p) n.w.coefficients
+    monic_second_polynomial = subst (IsPolynomial (residues p)) (sym made.5) (poly_product_polynomial P F.ring k l.w.coefficients vk last.w)
+
     not_longer : (f h : List ℕ) → IsPolynomial (residues p) f → h ≡ poly_product (mod_ops p) k f → length h ≤ length f
     not_longer f h vf e = omega (arith, made.2, ap length e, length_product_le P F k f vk vf)
 

@@ -7,3 +7,4 @@ pub mod ExtendedEuclid
 pub mod PowersModulo
 pub mod SumPlaces
 pub mod EuclidRows
+pub mod CofactorRows

@@ -1,3 +1,4 @@
+pub mod Cofactors
 pub mod Polynomial
 pub mod PrivateDivisors
 pub mod PrivateSums

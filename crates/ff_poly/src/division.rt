@@ -106,7 +106,9 @@ pub(crate) fn divide<const W: usize, const D: usize>(
     requires within { (k : ℕ) → steps + length d.now ≤ k + 1 → slice_index rest.old k ≡ 0 }
     requires blank { (k : ℕ) → slice_index quotient.old k ≡ 0 }
     ensures len { length rest.new ≡ W }
+    ensures long { length quotient.new ≡ W }
     ensures residues { All (λ x. x < p) quotient.new }
+    ensures short { (k : ℕ) → steps ≤ k → slice_index quotient.new k ≡ 0 }
     ensures rest { All (λ x. x < p) rest.new }
     ensures smaller { (k : ℕ) → length d.now ≤ k + 1 → slice_index rest.new k ≡ 0 }
     ensures division { (k : ℕ)

@@ -5,10 +5,11 @@ ghost use Rattle.alg_model.specs.Polynomials.{trim, poly_sum, poly_difference, p
 ghost use Rattle.alg_model.specs.Factors.{IsPolynomial, IsDivision, IsGreatestCommonDivisor};
 ghost use Rattle.ff_poly.specs.PrivateDivisors.{IsNormalizer, IsRowOf};
 ghost use Rattle.ff_poly.specs.Polynomial.{IsPoly};
+ghost use Rattle.ff_poly.specs.Cofactors.{IsCofactor};
 
-use crate::division::divide;
+use crate::cofactors::{bezout_of, cofactor_of, divided};
 use crate::polynomials::trimmed_len;
-use crate::rows::{blank_row, row_of};
+use crate::rows::row_of;
 use crate::{MAX_POLY, Poly, Prime};
 
 /// The greatest common divisor `g` of two polynomials `a` and `b`, with `u * a + w * b = g`.
@@ -60,23 +61,21 @@ impl Poly {
         ensures second_short { length result.w.coefficients
             ≤ max 1 (length self.now.coefficients - length result.g.coefficients) }
     {
-        let p = self.prime();
-        let mut first = Bezout {
-            g: self.copy(),
-            u: Poly::trimmed(p, &[1]),
-            w: Poly::trimmed(p, &[]),
-        };
-        let mut second = Bezout {
-            g: b.copy(),
-            u: Poly::trimmed(p, &[]),
-            w: Poly::trimmed(p, &[1]),
-        };
-        'euclid: while !second.g.is_zero() {
-            let rest = first.rest(&second);
-            first = second;
-            second = rest;
-        }
-        first.made_monic()
+        bezout_of(self.prime(), self.coefficients(), b.coefficients())
+    }
+
+    /// The factor `u` of this as `a` for which `u * a + w * b = g`, with some `w` and the greatest
+    /// common divisor `g` of `a` and `b`.
+    ///
+    /// As `bezout`, without the factor of `b`: where `g` is 1, `u` is the inverse of `a` modulo `b`.
+    pub fn cofactor(&self, b: &Poly) -> Poly
+        requires same_prime { self.now.prime ≡ b.now.prime }
+        requires not_both_zero { 0 < length self.now.coefficients + length b.now.coefficients }
+        ensures prime { result.prime ≡ self.now.prime }
+        ensures cofactor { IsCofactor self.now.prime self.now.coefficients b.now.coefficients
+            result.coefficients }
+    {
+        cofactor_of(self.prime(), self.coefficients(), b.coefficients())
     }
 
     // This times the inverse of its last coefficient, which is the greatest common divisor with 0;
@@ -93,7 +92,7 @@ impl Poly {
     }
 
     // The constant by which this is to be multiplied to become monic.
-    fn normalizer(&self) -> Poly
+    pub(crate) fn normalizer(&self) -> Poly
         requires { self.now.coefficients ≢ [] }
         ensures prime { result.prime ≡ self.now.prime }
         ensures whole { IsPoly self.now }
@@ -143,7 +142,7 @@ fn gcd_in<const W: usize, const D: usize>(p: Prime, a: &[u8], b: &[u8]) -> Poly
     let mut second = row_of::<W>(b);
     let (mut m, mut n) = (a.len(), b.len());
     'euclid: while n > 0 {
-        let rest = remainder::<W, D>(p, &first, m, &second, n);
+        let (_, rest) = divided::<W, D>(p, &first, m, &second, n);
         first = second;
         m = n;
         n = trimmed_len(&rest);
@@ -152,72 +151,9 @@ fn gcd_in<const W: usize, const D: usize>(p: Prime, a: &[u8], b: &[u8]) -> Poly
     Poly::trimmed(p, &first).made_monic()
 }
 
-// The remainder of the first polynomial, of m coefficients, by the second, of n.
-#[inline(always)]
-fn remainder<const W: usize, const D: usize>(
-    p: Prime,
-    first: &[u8; W],
-    m: usize,
-    second: &[u8; W],
-    n: usize,
-) -> [u8; W]
-    requires width { W ≤ MAX_POLY }
-    requires sizes { D ≡ W + W }
-    requires first { IsRowOf W p first.now m }
-    requires second { IsRowOf W p second.now n }
-    requires not_zero { 0 < n }
-    ensures len { length result ≡ W }
-    ensures residues { All (λ x. x < p) result }
-    ensures division { (q : List ℕ)
-        × IsDivision (residues p) (take m first.now) (take n second.now) q (trim (mod_ops p) result) }
-{
-    let _number = p.number();
-    let mut rest = *first;
-    let mut quotient = blank_row::<W>();
-    divide::<W, D>(
-        p,
-        &mut rest,
-        &mut quotient,
-        &second[..n],
-        (m + 1).saturating_sub(n),
-    );
-    rest
-}
-
 impl Bezout {
-    // The remainder of this by `d`, with what it is made of: less q times what the divisor is made
-    // of.
-    fn rest(&self, d: &Bezout) -> Bezout
-        requires primes { (self.now.u.prime ≡ self.now.g.prime)
-            × (self.now.w.prime ≡ self.now.g.prime)
-            × (d.now.g.prime ≡ self.now.g.prime) × (d.now.u.prime ≡ self.now.g.prime)
-            × (d.now.w.prime ≡ self.now.g.prime) }
-        requires not_zero { d.now.g.coefficients ≢ [] }
-        requires first_room { length self.now.g.coefficients + 1 - length d.now.g.coefficients
-            + length d.now.u.coefficients ≤ MAX_POLY + 1 }
-        requires second_room { length self.now.g.coefficients + 1 - length d.now.g.coefficients
-            + length d.now.w.coefficients ≤ MAX_POLY + 1 }
-        ensures primes { (result.g.prime ≡ self.now.g.prime) × (result.u.prime ≡ self.now.g.prime)
-            × (result.w.prime ≡ self.now.g.prime) }
-        ensures division { let o = mod_ops self.now.g.prime in
-            (q : List ℕ) × IsDivision (residues self.now.g.prime) self.now.g.coefficients
-            d.now.g.coefficients q
-            result.g.coefficients
-            × (result.u.coefficients
-            ≡ poly_difference o self.now.u.coefficients (poly_product o q d.now.u.coefficients))
-            × (result.w.coefficients
-            ≡ poly_difference o self.now.w.coefficients (poly_product o q d.now.w.coefficients)) }
-    {
-        let (quotient, rest) = self.g.divrem(&d.g);
-        Bezout {
-            g: rest,
-            u: self.u.sub(&quotient.mul(&d.u)),
-            w: self.w.sub(&quotient.mul(&d.w)),
-        }
-    }
-
     // The monic multiple, with the same multiple of what it is made of.
-    fn made_monic(&self) -> Bezout
+    pub(crate) fn made_monic(&self) -> Bezout
         requires primes { (self.now.u.prime ≡ self.now.g.prime)
             × (self.now.w.prime ≡ self.now.g.prime) }
         requires not_zero { self.now.g.coefficients ≢ [] }

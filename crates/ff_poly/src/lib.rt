@@ -6,6 +6,7 @@
 
 ghost use Rattle.std.specs.Prelude.{◌≡◌};
 
+mod cofactors;
 mod derivatives;
 mod division;
 mod divisors;

@@ -26,6 +26,17 @@ impl Model for PolyX {
     ghost view = { λ a. a.coefficients };
 }
 
+impl Default for PolyX {
+    /// The zero polynomial.
+    fn default() -> PolyX
+        ensures { result ≡ [] }
+    {
+        PolyX {
+            coefficients: BoundedList::new(),
+        }
+    }
+}
+
 impl PolyX {
     /// The polynomial with the coefficients `c`, lowest first; zeros at the end are dropped.
     pub fn of_values(field: &Field, c: &[Value]) -> PolyX

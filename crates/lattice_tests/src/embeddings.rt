@@ -81,7 +81,7 @@ const EXAMPLES: [Example; 3] = [
 ];
 
 // The embedding that sends the generator to the value with these digits.
-fn embedded(rt: &impl Abort, from: &Field, into: &Field, root: &[u8]) -> Embedding
+pub(crate) fn embedded(rt: &impl Abort, from: &Field, into: &Field, root: &[u8]) -> Embedding
     ensures source { result.source ≡ from.now }
     ensures target { result.target ≡ into.now }
 {

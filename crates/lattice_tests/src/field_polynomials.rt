@@ -9,7 +9,7 @@ use ff_field::{Field, Value};
 use ff_polyx::PolyX;
 use std::process::Abort;
 
-type Digits = &'static [&'static [u8]];
+pub(crate) type Digits = &'static [&'static [u8]];
 
 struct Example {
     p: u32,
@@ -106,8 +106,8 @@ const EXAMPLES: [Example; 3] = [
     },
 ];
 
-// The polynomial with these coefficients, at most 8.
-fn poly_of(rt: &impl Abort, field: &Field, digits: Digits) -> PolyX
+/// The polynomial with these coefficients, at most 8.
+pub(crate) fn poly_of(rt: &impl Abort, field: &Field, digits: Digits) -> PolyX
     ensures valid { IsPolynomial (field_values field.now) result }
     ensures short { length result ≤ 8 }
 {
@@ -120,7 +120,7 @@ fn poly_of(rt: &impl Abort, field: &Field, digits: Digits) -> PolyX
 }
 
 // Whether the coefficients have these digits.
-fn has_digits(f: &PolyX, digits: Digits) -> bool {
+pub(crate) fn has_digits(f: &PolyX, digits: Digits) -> bool {
     let coefficients = f.coefficients();
     if coefficients.len() != digits.len() {
         return false;

@@ -1,6 +1,6 @@
 //! Arithmetic of fields: examples that were computed with PARI, and some by hand over 2 modulo
-//! 1 + x + x^4.
-ghost use Rattle.std.specs.Prelude.{◌+◌, ◌<◌, ◌≤◌, length};
+//! 1 + x + x^4, and over 5 modulo 3 + x, where x is 2.
+ghost use Rattle.std.specs.Prelude.{◌≡◌, ◌+◌, ◌<◌, ◌≤◌, length};
 ghost use Rattle.alg_model.specs.Coefficients.{residues};
 ghost use Rattle.alg_model.specs.Factors.{IsMonic};
 ghost use Rattle.alg_model.specs.Maps.{field_values};
@@ -210,8 +210,9 @@ const EXAMPLES: [Example; 6] = [
     },
 ];
 
-// The monic polynomial with these coefficients.
-fn monic(rt: &impl Abort, p: u32, c: &[u8]) -> Poly
+/// The monic polynomial with these coefficients.
+pub(crate) fn monic(rt: &impl Abort, p: u32, c: &[u8]) -> Poly
+    ensures prime { result.prime ≡ p }
     ensures monic { IsMonic (residues result.prime) result.coefficients }
     ensures not_constant { 1 < length result.coefficients }
     ensures degree { length result.coefficients ≤ MAX_DEGREE + 1 }
@@ -226,7 +227,9 @@ fn monic(rt: &impl Abort, p: u32, c: &[u8]) -> Poly
 }
 
 /// The field with this characteristic and this polynomial.
-pub(crate) fn field_of(rt: &impl Abort, p: u32, c: &[u8]) -> Field {
+pub(crate) fn field_of(rt: &impl Abort, p: u32, c: &[u8]) -> Field
+    ensures { result.characteristic ≡ p }
+{
     let f = monic(rt, p, c);
     match judge(&f) {
         Verdict::Irreducible(_) => Field::new(f),
@@ -317,6 +320,40 @@ fn refusals(rt: HostRuntime) {
     assert!(rt; is_refused(&field, &[9, 9, 9], ValueFault::TooMany(3)));
     assert!(rt; is_refused(&field, &[0, 3], ValueFault::TooLarge(1)));
     assert!(rt; is_refused(&field, &[3, 4], ValueFault::TooLarge(0)));
+}
+
+#[test]
+fn parts_at_degree_one(rt: HostRuntime) {
+    let field = field_of(&rt, 5, &[3, 1]).copy();
+    assert_eq!(rt; (field.degree(), field.prime().number()), (1, 5));
+    assert_eq!(rt; field.poly().coefficients(), [3, 1].as_slice());
+    assert_eq!(rt; field.zero().digits(), [0].as_slice());
+    assert_eq!(rt; field.one().digits(), [1].as_slice());
+    assert_eq!(rt; field.generator().digits(), [2].as_slice());
+    let four = field.of_residue(4);
+    assert_eq!(rt; four.copy().digits(), [4].as_slice());
+    assert_eq!(rt; field.compare(&field.generator(), &four), Ordering::Less);
+    assert!(rt; field.is_zero(&field.zero()) && !field.is_zero(&four));
+    assert!(rt; is_refused(&field, &[1, 1], ValueFault::TooMany(2)));
+    assert!(rt; is_refused(&field, &[5], ValueFault::TooLarge(0)));
+}
+
+#[test]
+fn arithmetic_at_degree_one(rt: HostRuntime) {
+    let field = field_of(&rt, 5, &[3, 1]);
+    let a = value_of(&rt, &field, &[3]);
+    let b = field.of_residue(4);
+    assert_eq!(rt; field.add(&a, &b).digits(), [2].as_slice());
+    assert_eq!(rt; field.sub(&a, &b).digits(), [4].as_slice());
+    assert_eq!(rt; field.neg(&a).digits(), [2].as_slice());
+    assert_eq!(rt; field.mul(&a, &b).digits(), [2].as_slice());
+    let inverse = field.inv(&b).expect(&rt, "not zero");
+    assert_eq!(rt; inverse.digits(), [4].as_slice());
+    assert!(rt; field.inv(&field.zero()).is_none());
+    assert_eq!(rt; field.pow(&a, 3).digits(), [2].as_slice());
+    assert_eq!(rt; field.pow(&field.zero(), 0).digits(), [1].as_slice());
+    assert_eq!(rt; field.frob(&a).digits(), [3].as_slice());
+    assert_eq!(rt; (field.trace(&a), field.norm(&a)), (3, 3));
 }
 
 // Whether the numbers are refused as digits for this reason.

@@ -9,7 +9,13 @@ mod embeddings;
 #[cfg(test)]
 mod field_polynomials;
 #[cfg(test)]
+mod field_roots;
+#[cfg(test)]
 mod field_values;
 #[cfg(test)]
 mod hand_examples;
+#[cfg(test)]
+mod lattices;
+#[cfg(test)]
+mod minimal_polynomials;
 pub mod trial_division;

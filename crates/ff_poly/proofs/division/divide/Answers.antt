@@ -1,5 +1,5 @@
 use Rattle.std.proofs.Common.{◌≡◌, ℕ, ◌+◌, ◌-◌, ◌*◌, ◌%◌, ◌≤◌, length, slice_index, ap, sym, ◌∙◌, subst, arith}
-use Rattle.std.proofs.lemmas.List.{length-set}
+use Rattle.std.proofs.lemmas.List.{length-set, get_or-set_other}
 use native.Mathlib.Nat.{mod-add-mod, zero-add}
 use Rattle.std.proofs.lemmas.Nat.{mul-mod_first}
 use Rattle.alg_model.specs.Polynomials.{convolution}
@@ -20,6 +20,7 @@ loop-at-init g c =
     record {
       prime = c.of-sums.ensures.prime;
       long = omega arith;
+      short = λ k l. c.requires.blank k;
       divided = subst (λ xs. Divided p (length d - 1) c.args.steps c.args.steps c.args.quotient.now d xs f)
           (sym (residue_row_is g.row.W c.of-sums.result f (omega arith) (λ k l. sym (c.of-sums.ensures.residues k))))
           (start_division p (length d - 1) c.args.steps c.args.quotient.now d f
@@ -50,6 +51,7 @@ loop-at-preserved g c =
     record {
       prime = c.add_shifted.ensures.prime;
       long = length-set c.loop-at.quotient at t ∙ c.loop-at.invariant.long;
+      short = λ k l. get_or-set_other c.loop-at.quotient at k t 0 (omega arith) ∙ c.loop-at.invariant.short k l;
       divided = sums_round w p degree c.args.steps at t c.loop-at.quotient d c.padded-padded.result f old c.add_shifted.new.sums
           known c.padded-padded.ensures.padded c.mul-factor.ensures.residue (omega arith) top c.add_shifted.ensures.prime c.loop-at.invariant.prime
           c.add_shifted.ensures.below

@@ -1,5 +1,6 @@
 use Rattle.std.proofs.Common.{◌≡◌, ◌<◌, [], take, length, sym, ◌∙◌, subst, arith}
-use Rattle.alg_model.specs.Coefficients.{residues}
+use Rattle.alg_model.specs.Coefficients.{mod_ops, residues}
+use Rattle.alg_model.specs.Polynomials.{trim}
 use Rattle.alg_model.specs.Factors.{IsDivision, IsGreatestCommonDivisor}
 use Rattle.alg_rings.proofs.Residues.{residues_ring}
 use Rattle.alg_rings.proofs.ResidueFields.{residues_propositional}
@@ -31,18 +32,18 @@ euclid-preserved g c =
     let w = g.row.W in
     let h = c.euclid.invariant in
     let above : 1 < p = omega (arith, c.number-number.ensures.small, c.number-number.ensures.value) in
-    let (q, division) = c.remainder-rest.ensures.division in
     let trimmed = c.trimmed_len-n.ensures.trimmed p in
     let A = take c.euclid.m c.euclid.first in
     let B = take c.euclid.n c.euclid.second in
-    let R = take c.trimmed_len-n.result c.remainder-rest.result in
-    let by : IsDivision (residues p) A B q R = subst (λ xs. IsDivision (residues p) A B q xs) (sym trimmed) division in
+    let R = take c.trimmed_len-n.result c.divided-rest.result.1 in
+    let q = trim (mod_ops p) c.divided-rest.result.0 in
+    let by : IsDivision (residues p) A B q R = subst (λ xs. IsDivision (residues p) A B q xs) (sym trimmed) c.divided-rest.ensures.division in
     record {
       first = h.second;
       second = record {
-        count = c.remainder-rest.ensures.len;
-        residues = c.remainder-rest.ensures.residues;
-        fits = omega (arith, c.trimmed_len-n.ensures.fits, c.remainder-rest.ensures.len);
+        count = c.divided-rest.ensures.len.1;
+        residues = c.divided-rest.ensures.residues.1;
+        fits = omega (arith, c.trimmed_len-n.ensures.fits, c.divided-rest.ensures.len);
         trimmed = trimmed;
       };
       gcd = λ d G. h.gcd d (gcd_step (residues_propositional p) (residues_ring p above) A B q R d

@@ -1,15 +1,11 @@
-use Rattle.std.proofs.Common.{slice_index, ap, ◌∙◌}
-use Rattle.alg_model.specs.Maps.{constant}
-use Rattle.alg_model.specs.Conjugates.{trace}
-use Rattle.alg_galois.proofs.FieldTraces.{prime_traces}
-use Rattle.ff_field.proofs.SmallFieldLaws.{lowest_digit}
+use Rattle.std.proofs.Common.{◌%◌, length, ap₂, ◌∙◌}
+use Rattle.ff_field.specs.PrivateTables.{scalar_sum}
+use Rattle.ff_field.proofs.TraceRows.{trace_by_row}
 use Rattle.ff_field.proofs.fields.Field.trace.Goals as goal
 
 pub returns-clause-value : goal.returns-clause-value
 returns-clause-value c =
     let K = c.args.self.now in
-    let W = c.degree-degree.ensures.whole.finite in
-    let a = c.args.a.now in
-    ap (λ xs. constant K (slice_index xs 0))
-    (c.digits.ensures.value ∙ c.sum_of_conjugates-sum.ensures.value)
-    ∙ lowest_digit K W (trace K a) (let (t, e) = (prime_traces K W).trace_is_image a c.requires in (t.0, t.1, e))
+    let traces = c.traces.result.now in
+    trace_by_row K c.degree-degree.ensures.whole.finite traces c.args.a.now c.scalar_product.result c.traces.ensures c.requires
+    (c.scalar_product.ensures.value ∙ ap₂ (λ b q. scalar_sum (length b) b traces % q) c.digits.ensures.value c.prime.ensures.value)

@@ -1,0 +1,13 @@
+pub mod ValueLaws
+pub mod PolynomialValues
+pub mod ConstantPolynomials
+pub mod DifferentLists
+pub mod SplitPolynomials
+pub mod RootDivisors
+pub mod FrobeniusModulo
+pub mod RootPowers
+pub mod RootTraces
+pub mod RootCuts
+pub mod NarrowedRoots
+pub mod ConjugateRoots
+pub mod RootLists

@@ -1,0 +1,3 @@
+pub mod RootLists
+pub mod Theorems
+pub mod PrivateSearch

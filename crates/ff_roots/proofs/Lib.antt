@@ -1,0 +1,10 @@
+pub mod ValueSums
+pub mod RootInsertion
+pub mod Cofactors
+pub mod Collecting
+pub mod Narrowing
+pub mod PowerLists
+pub mod ConjugateMembers
+pub mod BlankValues
+pub mod CommonRoots
+pub mod GeneralRoots

@@ -1,0 +1,2 @@
+pub mod PrivateCollecting
+pub mod PrivatePowers

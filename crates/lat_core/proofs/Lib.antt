@@ -1,0 +1,12 @@
+pub mod AddedMaps
+pub mod NameLengths
+pub mod Openings
+pub mod GrownRows
+pub mod HistoryLaws
+pub mod KeptMaps
+pub mod Decisions
+pub mod MapCounts
+pub mod MapLengths
+pub mod StepExists
+pub mod StepDetermined
+pub mod StepKeeps

@@ -1,0 +1,11 @@
+pub mod Answers
+pub mod Digits
+pub mod Editions
+pub mod Histories
+pub mod Names
+pub mod NumberLists
+pub mod PrivateLattices
+pub mod PrivateOpening
+pub mod SharedRows
+pub mod Step
+pub mod Theorems

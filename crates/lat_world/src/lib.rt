@@ -1,0 +1,13 @@
+//! The fields of a lattice that go into one field: the degrees that they lack under greatest common
+//! divisors, and the one map between each two of them that agrees with their maps into that field.
+//!
+//! In fixed room and without allocation.
+#![tactic(auto)]
+
+mod laws;
+mod members;
+mod worlds;
+
+pub use laws::forced_maps_are_determined;
+pub use members::{MAX_MEMBERS, Member};
+pub use worlds::World;
