@@ -1,4 +1,4 @@
-use Rattle.std.proofs.Common.{[], ◌∷◌, ◌+◌, length, All, ap, sym, subst, arith, ◌∙◌}
+use Rattle.std.proofs.Common.{[], ◌∷◌, ◌+◌, length, All, ap, sym, subst, ◌∙◌}
 use Rattle.std.proofs.lemmas.List.{length-append}
 use Rattle.std.proofs.lemmas.List.Elements.{All-nil, All-cons, All-append}
 use Rattle.alg_model.specs.Maps.{field_values}
