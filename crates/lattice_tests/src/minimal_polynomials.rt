@@ -5,7 +5,7 @@ ghost use Rattle.alg_model.specs.Factors.{IsPolynomial};
 ghost use Rattle.alg_model.specs.Maps.{field_values};
 
 use crate::embeddings::embedded;
-use crate::field_polynomials::{Digits, has_digits};
+use crate::field_polynomials::{Digits, has_digits, poly_of};
 use crate::field_values::{field_of, value_of};
 use ff_field::Field;
 use ff_minpoly::{over, over_prime, restricted};
@@ -203,6 +203,9 @@ fn four_elements_in_sixteen(rt: HostRuntime) {
     assert!(rt; has_digits(&over(&map, &generator), &[&[0, 1], &[1, 0], &[1, 0]]));
 }
 
+// The polynomial over the third of the fields below, with the roots that are tested there.
+const RESTRICTION: Digits = &[&[0, 1, 0, 1], &[1, 0, 0, 0], &[1, 0, 0, 0]];
+
 #[test]
 fn two_fields_over_one_of_four_elements(rt: HostRuntime) {
     let k = field_of(&rt, 2, &[1, 1, 1]);
@@ -210,12 +213,11 @@ fn two_fields_over_one_of_four_elements(rt: HostRuntime) {
     let m = field_of(&rt, 2, &[1, 0, 0, 1, 1]);
     let sub = embedded(&rt, &k, &l, &[0, 1, 1, 0]);
     let into = embedded(&rt, &k, &m, &[0, 1, 0, 1]);
-    let polynomial = restricted(&sub, &into);
-    assert!(rt; has_digits(&polynomial, &[&[0, 1, 0, 1], &[1, 0, 0, 0], &[1, 0, 0, 0]]));
-    let target = into.target();
-    assert!(rt; is_root(&rt, &target, &polynomial, &[0, 0, 1, 1]));
-    assert!(rt; is_root(&rt, &target, &polynomial, &[1, 0, 1, 1]));
-    assert!(rt; !is_root(&rt, &target, &polynomial, &[0, 1, 0, 0]));
+    assert!(rt; has_digits(&restricted(&sub, &into), RESTRICTION));
+    let polynomial = poly_of(&rt, &m, RESTRICTION);
+    assert!(rt; is_root(&rt, &m, &polynomial, &[0, 0, 1, 1]));
+    assert!(rt; is_root(&rt, &m, &polynomial, &[1, 0, 1, 1]));
+    assert!(rt; !is_root(&rt, &m, &polynomial, &[0, 1, 0, 0]));
 }
 
 // Whether the polynomial is zero at the value with these digits.
