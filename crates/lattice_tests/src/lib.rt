@@ -19,3 +19,5 @@ mod lattices;
 #[cfg(test)]
 mod minimal_polynomials;
 pub mod trial_division;
+#[cfg(test)]
+mod worlds;
