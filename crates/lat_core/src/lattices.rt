@@ -65,6 +65,14 @@ impl Lattice {
         self.edition
     }
 
+    /// What its rows are allocated by.
+    pub fn allocator(&self) -> Global
+        ensures { IsCompatible self.now }
+    {
+        let _edition = self.edition();
+        *self.rows.allocator()
+    }
+
     /// How many fields there are.
     pub fn fields(&self) -> u32
         ensures value { result ≡ length self.now.rows }
@@ -154,7 +162,7 @@ impl Lattice {
         requires between { AreBetween (self.now.rows ++ fields.now) maps.now }
         ensures { IfOk result (λ lattice. lattice ≡ with_rows self.now fields.now maps.now) }
     {
-        let alloc = *self.rows.allocator();
+        let alloc = self.allocator();
         let rows = grown_rows(alloc, self.rows.as_slice(), fields, maps)?;
         Ok(Lattice {
             edition: self.edition,
