@@ -1,0 +1,134 @@
+-- The lists of degrees, made in steps.
+use Rattle.std.proofs.Common.{◌≡◌, ◌↔◌, ◌⊎◌, ℕ, suc, ◌+◌, ◌<◌, ◌≤◌, List, [], ◌∷◌, ◌++◌, length, refl, sym, ap, ◌∙◌, subst, ⊎_elim, arith, AllPairs, true, false, is_some, Option, Some, None}
+use Rattle.std.specs.List.{Contains}
+use Rattle.std.specs.Prelude.{MatchOption, IsTrue, Bool}
+use Rattle.std.specs.FinMap.{get}
+use Rattle.std.proofs.lemmas.Bool.{cases_eq}
+use Rattle.std.proofs.lemmas.List.Elements.{Contains-push, Contains-append_left, Contains-push_cases, Contains-get_or}
+use Rattle.std.proofs.lemmas.List.Quantifiers.{all_pairs_push}
+use Rattle.alg_model.specs.Maps.{degree_of}
+use Rattle.alg_model.specs.Lattices.{Lattice, field_at, Stored, IsCompatible}
+use Rattle.alg_model.specs.Candidates.{IsMember, AreMissing}
+use Rattle.alg_model.specs.Candidates.IsMember.{of_source, of_target}
+use Rattle.alg_choices.specs.Degrees.{AreDegrees, InClosure}
+use Rattle.alg_choices.proofs.Members.{are_missing}
+use Rattle.lat_world.proofs.WorldLemmas.{lacks}
+use Rattle.ff_meet.specs.Degrees.{Holds}
+use Rattle.ff_meet.specs.Degrees as Sets
+use Rattle.ff_embed.specs.SmallEmbeddings.{FieldMap}
+use Rattle.std.specs.Borrow.{Bor}
+use Rattle.lat_core.specs.SharedRows.{IsBetween}
+use Rattle.lat_fill.specs.PrivateListing.{AreDegreesBelow}
+
+module _ {L : Lattice} {E F : ℕ} where
+  -- what two look-ups tell of a member
+  pub is_member : {A B : Type 0} (i : ℕ) (into : Option A) (from : Option B) (P : A → List (List ℕ)) (Q : B → List (List ℕ))
+      → MatchOption into (get L.maps (i, F) ≡ None) (λ e. Stored L i F (P e))
+      → MatchOption from (get L.maps (i, E) ≡ None) (λ e. Stored L i E (Q e))
+      → (is_some into ≡ true) ⊎ (is_some from ≡ true) → IsMember L E F i
+  is_member i (Some e) from P Q h k c = of_target h
+  is_member i None (Some e) P Q h k c = of_source k
+  is_member i None None P Q h k c = absurd (⊎_elim (λ e. cc) (λ e. cc) c)
+
+  pub is_no_member : {A B : Type 0} (i : ℕ) (into : Option A) (from : Option B) (P : A → Type 0) (Q : B → Type 0)
+      → MatchOption into (get L.maps (i, F) ≡ None) P → MatchOption from (get L.maps (i, E) ≡ None) Q
+      → is_some into ≡ false → is_some from ≡ false → IsMember L E F i → ⊥
+  is_no_member i (Some e) from P Q h k a b m = cc
+  is_no_member i None (Some e) P Q h k a b m = cc
+  is_no_member i None None P Q h k a b (of_source {m} s) = let e : get L.maps (i, E) ≡ Some m = s.found in cc
+  is_no_member i None None P Q h k a b (of_target {m} s) = let e : get L.maps (i, F) ≡ Some m = s.found in cc
+
+  -- ---- the degrees of the members
+  pub degrees_none : {ds : List ℕ} → ds ≡ [] → AreDegreesBelow L E F 0 ds
+  degrees_none {ds} e d = (
+    λ (k, h, x). absurd (let n : length ds ≡ 0 = ap length e in omega (arith, h, n)),
+    λ (i, h, m, x). absurd (omega (arith, h)),
+  )
+
+  pub degrees_push : {n : ℕ} {ds : List ℕ} (d : ℕ) → AreDegreesBelow L E F n ds → IsMember L E F n
+      → d ≡ degree_of (field_at L.rows n) → AreDegreesBelow L E F (n + 1) (ds ++ d ∷ [])
+  degrees_push {n} {ds} d H m e x = (
+    λ c. ⊎_elim
+        (λ c. let (i, h, k, f) = (H x).0 c in (i, omega (arith, h), k, f))
+        (λ f. (n, omega arith, m, sym e ∙ f))
+        (Contains-push_cases ds d x c),
+    λ (i, h, k, f). ⊎_elim
+        (λ (g : i ≡ n). subst (Contains (ds ++ d ∷ [])) (e ∙ ap (λ j. degree_of (field_at L.rows j)) (sym g) ∙ f) (Contains-push ds d))
+        (λ g. Contains-append_left ds (d ∷ []) x ((H x).1 (i, omega (arith, h, g), k, f)))
+        (cases_eq i n),
+  )
+
+  pub degrees_skip : {n : ℕ} {ds : List ℕ} → AreDegreesBelow L E F n ds → (IsMember L E F n → ⊥)
+      → AreDegreesBelow L E F (n + 1) ds
+  degrees_skip {n} {ds} H none x = (
+    λ c. let (i, h, k, f) = (H x).0 c in (i, omega (arith, h), k, f),
+    λ (i, h, k, f). ⊎_elim
+        (λ (g : i ≡ n). absurd (none (subst (IsMember L E F) g k)))
+        (λ g. (H x).1 (i, omega (arith, h, g), k, f))
+        (cases_eq i n),
+  )
+
+  member_below : IsCompatible L → {i : ℕ} → IsMember L E F i → i < length L.rows
+  member_below C (of_source h) = (C.compatible.within h).0
+  member_below C (of_target h) = (C.compatible.within h).0
+
+  pub degrees_all : IsCompatible L → {ds : List ℕ} → AreDegreesBelow L E F (length L.rows) ds
+      → AreDegrees L E F (Contains ds)
+  degrees_all C H = record {
+    exactly = λ d. (
+      λ c. let (i, h, m, e) = (H d).0 c in (i, m, e),
+      λ (i, m, e). (H d).1 (i, member_below C m, m, e),
+    );
+  }
+
+  -- **what a set of the members' degrees lacks is missing**
+  pub missing_degrees : {set : List Bool} {more : List Bool} {ds es : List ℕ} → AreDegrees L E F (Contains ds)
+      → ((d : ℕ) → Holds set d ↔ Contains ds d)
+      → ((d : ℕ) → Holds more d ↔ (Sets.InClosure set d × (Holds set d → ⊥)))
+      → AllPairs (λ a b. a < b) es → ((d : ℕ) → Contains es d ↔ Holds more d)
+      → AreMissing L E F es
+  missing_degrees D same missing rising exactly = are_missing D rising (λ d.
+      let l = lacks same d in
+      (λ c. l.0 ((missing d).0 ((exactly d).0 c)), λ x. (exactly d).1 ((missing d).1 (l.1 x))))
+
+-- ---- the rising list of what a set holds
+pub record IsRisingBelow (set : List Bool) (n : ℕ) (ds : List ℕ) : Type 0 where
+  pub rising : AllPairs (λ a b. a < b) ds
+  pub exactly : (d : ℕ) → Contains ds d ↔ ((d < n) × Holds set d)
+
+pub rising_none : {set : List Bool} {ds : List ℕ} → (Holds set 0 → ⊥) → ds ≡ [] → IsRisingBelow set 1 ds
+rising_none {set} {ds} zero e = subst (IsRisingBelow set 1) (sym e) (record {
+  rising = λ i j d h k. absurd (omega arith);
+  exactly = λ d. (
+    λ (k, h, x). absurd (omega arith),
+    λ (h, x). absurd (zero (subst (Holds set) (let z : d ≡ 0 = omega (arith, h) in z) x)),
+  );
+})
+
+module _ {set : List Bool} {n : ℕ} {ds : List ℕ} (H : IsRisingBelow set n ds) where
+  pub rising_push : Holds set n → IsRisingBelow set (n + 1) (ds ++ n ∷ [])
+  rising_push held = record {
+    rising = all_pairs_push (λ a b. a < b) ds n H.rising (λ k d h. ((H.exactly _).0 (Contains-get_or ds k d h)).0);
+    exactly = λ d. (
+      λ c. ⊎_elim
+          (λ c. let (h, x) = (H.exactly d).0 c in (omega (arith, h), x))
+          (λ (e : n ≡ d). (omega (arith, e), subst (Holds set) e held))
+          (Contains-push_cases ds n d c),
+      λ (h, x). ⊎_elim
+          (λ (e : d ≡ n). subst (Contains (ds ++ n ∷ [])) (sym e) (Contains-push ds n))
+          (λ e. Contains-append_left ds (n ∷ []) d ((H.exactly d).1 (omega (arith, h, e), x)))
+          (cases_eq d n),
+    );
+  }
+
+  pub rising_skip : (Holds set n → ⊥) → IsRisingBelow set (n + 1) ds
+  rising_skip none = record {
+    rising = H.rising;
+    exactly = λ d. (
+      λ c. let (h, x) = (H.exactly d).0 c in (omega (arith, h), x),
+      λ (h, x). ⊎_elim
+          (λ (e : d ≡ n). absurd (none (subst (Holds set) e x)))
+          (λ e. (H.exactly d).1 (omega (arith, h, e), x))
+          (cases_eq d n),
+    );
+  }
