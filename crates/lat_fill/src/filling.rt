@@ -46,7 +46,7 @@ fn ways(lattice: &Lattice, members: &[Member]) -> Result<Vec<MapRow>, NoMemory>
 /// The fields that go into `into` are listed with their maps into it; between two of them whose
 /// degrees divide, the one map that agrees with these is stored, and each of them gets a map into
 /// each field that another one of them, into which it goes, has a map into.
-pub fn filled(
+pub fn fill(
     lattice: &Lattice,
     from: u32,
     into: u32,

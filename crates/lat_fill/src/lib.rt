@@ -10,4 +10,4 @@ mod members;
 mod outlets;
 
 pub use degrees::{DegreeList, missing};
-pub use filling::{Filled, filled};
+pub use filling::{Filled, fill};
