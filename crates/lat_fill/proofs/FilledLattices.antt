@@ -28,8 +28,8 @@ use Rattle.lat_fill.proofs.MadeFields.{rows_after}
 abbrev no_map : MapRow
 no_map = record { from = 0; into = 0; map = no_member.map }
 
-module _ {L : Lattice} {E F : ℕ} {phi : List (List ℕ)} {fields : List Row} {ms : List Member}
-    {maps : List MapRow}
+module _ (L : Lattice) (E F : ℕ) (phi : List (List ℕ)) (fields : List Row) (ms : List Member)
+    (maps : List MapRow)
     (C : IsCompatible L)
     (H : AreListed L E F phi (L.rows ++ fields) (length (L.rows ++ fields)) ms)
     (W : AreAllWays L ms maps) where
@@ -97,7 +97,7 @@ module _ {L : Lattice} {E F : ℕ} {phi : List (List ℕ)} {fields : List Row} {
   links : Links (length ms) (number_at ms) (images_at ms) L F M
   links = record {
     only = stored_is_way;
-    old = λ {i} {k} {m} s. had_is_stored {i} {k} (inl (m, s));
+    old = λ {i} {k} {m} s. had_is_stored {i = i} {k = k} (inl (m, s));
     among = λ a b la lb d. had_is_stored (W.among a b la lb (goes a b la lb d));
     leaving = λ a b la lb d {k} {m} s none. had_is_stored (W.leaving a k la (C.compatible.within s).1
         (λ p. none p.place p.within p.number)
@@ -119,7 +119,7 @@ module _ {L : Lattice} {E F : ℕ} {phi : List (List ℕ)} {fields : List Row} {
         (subst (λ p. IsListed (length ms) (number_at ms) (images_at ms) L E F p M.rows) same listed) links)
 
     -- **so it is compatible and has grown, where there is room**
-    pub is_compatible : length M.rows ≤ L.edition.room → IsCompatible M × Grows L M
+    pub is_compatible : length (L.rows ++ fields) ≤ L.edition.room → IsCompatible M × Grows L M
     is_compatible room = filled_is_compatible C A c (subst (λ p. IsFilled L E F p M) same is_filled) room
 
 -- a lattice that has grown has no fewer maps
@@ -128,5 +128,5 @@ not_fewer {L} {M} G = not_smaller pair_total L.maps M.maps (λ q h. keeps q (get
   where
     keeps : (q : ℕ × ℕ) (o : Option (List (List ℕ))) → get L.maps q ≡ o → is_some (get L.maps q) ≡ true
         → is_some (get M.maps q) ≡ true
-    keeps (i, k) (Some m) e h = ap is_some (G.maps {i} {k} {m} (record { found = e })).found
+    keeps (i, k) (Some m) e h = ap is_some (G.maps {i = i} {j = k} {m = m} (record { found = e })).found
     keeps (i, k) None e h = cc

@@ -4,16 +4,18 @@ use Rattle.std.proofs.lemmas.Bool.{cases_eq}
 use Rattle.std.proofs.lemmas.List.{get_or_append_left, get_or_default}
 use Rattle.std.proofs.Math.Seq.{get_or-append_seam}
 use Rattle.alg_model.specs.Maps.{comp}
-use Rattle.alg_model.specs.Lattices.{Lattice, Row, no_row, field_at}
+use Rattle.alg_model.specs.Lattices.{Lattice, Row, no_row, field_at, Stored, IsCompatible}
 use Rattle.alg_model.specs.Candidates.{IsMember}
 use Rattle.alg_model.specs.Filling.{IsMapInto}
 use Rattle.alg_model.specs.Filling.IsMapInto.{stored, through, made}
 use Rattle.alg_choices.specs.Linking.{IsListedBelow}
 use Rattle.alg_choices.proofs.Linking.{listed_none, listed_push, listed_skip}
+use Rattle.ff_embed.specs.SmallEmbeddings.{FieldMap}
 use Rattle.lat_core.specs.SharedRows.{IsBetween}
 use Rattle.lat_world.specs.declared.members.Member.{Member}
 use Rattle.lat_world.specs.Worlds.{no_member, map_at, AreMembers}
 use Rattle.lat_fill.specs.PrivateListing.{number_at, images_at, AreListed}
+use Rattle.lat_fill.specs.PrivateWays.{AreAtHome}
 
 -- ---- the list in steps
 pub list_none : {L : Lattice} {E F : ℕ} {phi : List (List ℕ)} {rows : List Row} {ms : List Member}
@@ -63,21 +65,23 @@ module _ {L : Lattice} {E F : ℕ} {phi : List (List ℕ)} {rows : List Row} {n 
   }
 
 -- ---- more rows
-module _ {L : Lattice} {E F : ℕ} {phi : List (List ℕ)} (fields : List Row)
-    (within : F < length L.rows) where
-  same_field : (i : ℕ) → i < length L.rows → field_at (L.rows ++ fields) i ≡ field_at L.rows i
-  same_field i h = ap (λ r. r.field) (get_or_append_left L.rows fields no_row i h)
+same_field : (olds fields : List Row) (i : ℕ) → i < length olds
+    → field_at (olds ++ fields) i ≡ field_at olds i
+same_field olds fields i h = ap (λ r. r.field) (get_or_append_left olds fields no_row i h)
 
+module _ (L : Lattice) (E F : ℕ) (phi : List (List ℕ)) (fields : List Row)
+    (within : F < length L.rows) where
   same_into : {i : ℕ} {m : List (List ℕ)} → i < length L.rows → IsMapInto L E F phi L.rows i m
       → IsMapInto L E F phi (L.rows ++ fields) i m
   same_into h (stored s) = stored s
-  same_into {i} h (through {m} s) = subst (λ K. IsMapInto L E F phi (L.rows ++ fields) i (comp K m phi)) (same_field F within) (through s)
+  same_into {i} h (through {m} s) =
+      subst (λ K. IsMapInto L E F phi (L.rows ++ fields) i (comp K m phi)) (same_field L.rows fields F within) (through s)
   same_into h (made above below r) = absurd (omega arith)
 
   -- rows behind those of the lattice change nothing
   pub list_longer : {ms : List Member} → AreListed L E F phi L.rows (length L.rows) ms
       → AreListed L E F phi (L.rows ++ fields) (length L.rows) ms
-  list_longer H = record {
+  list_longer {ms} H = record {
     listed = record {
       is_into = λ a l. same_into (H.listed.below a l) (H.listed.is_into a l);
       below = H.listed.below;
@@ -85,8 +89,8 @@ module _ {L : Lattice} {E F : ℕ} {phi : List (List ℕ)} (fields : List Row)
       members = H.listed.members;
       made = λ i above below. absurd (omega arith);
     };
-    source = λ a l. H.source a l ∙ sym (same_field _ (H.listed.below a l));
-    target = λ a l. H.target a l ∙ sym (same_field F within);
+    source = λ a l. H.source a l ∙ sym (same_field L.rows fields (number_at ms a) (H.listed.below a l));
+    target = λ a l. H.target a l ∙ sym (same_field L.rows fields F within);
   }
 
 -- ---- a world of members
@@ -125,3 +129,27 @@ are_members {F = F} {n = n} {ms = ms} H room below member =
         let x : c ≤ number_at ms c = rising_above (number_at ms) (suc c) r c (omega arith) in
         let y : number_at ms c < n = b c (omega arith) in
         omega (arith, x, y)
+
+-- members with stored maps begin in their fields of the lattice
+pub at_home : {L : Lattice} {E F : ℕ} {phi : List (List ℕ)} (fields : List Row) {n : ℕ}
+    {ms : List Member}
+    → IsCompatible L → AreListed L E F phi (L.rows ++ fields) n ms → AreAtHome L ms
+at_home {L} fields {ms = ms} C H = record {
+  source = λ b k m l s. H.source b l ∙ same_field L.rows fields (number_at ms b) (C.compatible.within s).0;
+}
+
+-- ---- the maps of one member
+pub into_stored : {L : Lattice} {E F i : ℕ} {phi : List (List ℕ)} (e f : FieldMap) → f ≡ e
+    → Stored L i F e.images × IsBetween L.rows i F e
+    → IsMapInto L E F phi L.rows i f.images × IsBetween L.rows i F f
+into_stored {L} {E} {F} {i} {phi} e f same (s, b) =
+    subst (λ x. IsMapInto L E F phi L.rows i x.images × IsBetween L.rows i F x) (sym same) (stored s, b)
+
+pub into_through : {L : Lattice} {E F i : ℕ} (e f phi : FieldMap) → phi.target ≡ field_at L.rows F
+    → Stored L i E e.images × IsBetween L.rows i E e → f.source ≡ e.source → f.target ≡ phi.target
+    → f.images ≡ comp phi.target e.images phi.images
+    → IsMapInto L E F phi.images L.rows i f.images × IsBetween L.rows i F f
+into_through {L} {E} {F} {i} e f phi t (s, b) x y z = (
+  subst (IsMapInto L E F phi.images L.rows i) (sym (z ∙ ap (λ K. comp K e.images phi.images) t)) (through s),
+  record { source = x ∙ b.source; target = y ∙ t },
+)

@@ -6,13 +6,17 @@ use Rattle.std.proofs.lemmas.Bool.{cases_eq, cases_lt}
 use Rattle.std.proofs.lemmas.List.{get_or_append_left, get_or_default}
 use Rattle.std.proofs.lemmas.List.Elements.{All-push}
 use Rattle.std.proofs.Math.Seq.{get_or-append_seam}
-use Rattle.alg_model.specs.Lattices.{Lattice, Stored}
+use borrow.Author.Count.{below_more}
+use Rattle.alg_model.specs.Maps.{comp}
+use Rattle.alg_model.specs.Lattices.{Lattice, Stored, field_at}
 use Rattle.ff_embed.specs.SmallEmbeddings.{FieldMap}
 use Rattle.lat_core.specs.declared.rows.MapRow.{MapRow}
 use Rattle.lat_core.specs.SharedRows.{IsBetween}
 use Rattle.lat_world.specs.declared.members.Member.{Member}
+use Rattle.lat_world.specs.Worlds.{no_member, map_at, IsForcedBetween}
 use Rattle.lat_fill.specs.PrivateListing.{number_at}
-use Rattle.lat_fill.specs.PrivateWays.{IsWay, AreWays, IsListedPair, IsHad, Keeps, IsWayFor, IsAdded}
+use Rattle.lat_fill.specs.PrivateWays.{IsWay, AreWays, IsListedPair, IsHad, Keeps, IsReached, AreAtHome, HasPlace, IsWayFor, IsAdded}
+use Rattle.lat_fill.specs.PrivateWays as Ways
 
 -- ---- pairs of a list
 pub pair_left : {old : List MapRow} (more : List MapRow) {i k : ℕ} → IsListedPair old i k
@@ -75,13 +79,88 @@ added_step {L} {ms} {Needed} {i} {k} {old} {new} (Some m) W h e = subst (Step L 
 pub no_ways : {L : Lattice} {ms : List Member} {maps : List MapRow} → maps ≡ [] → AreWays L ms maps
 no_ways {L} {ms} e = subst (AreWays L ms) (sym e) (record { each = λ x d h. absurd (omega arith) })
 
--- a look-up that finds a map
-pub stored_if : {A : Type 0} {L : Lattice} {i k : ℕ} (found : Option A) (images : A → List (List ℕ)) (N : Type 0)
-    → MatchOption found N (λ e. Stored L i k (images e)) → is_some found ≡ true
+-- ---- look-ups
+-- one that finds a map
+pub found_stored : {A : Type 0} {L : Lattice} {i k : ℕ} (found : Option A) (images : A → List (List ℕ)) (N : Type 0) (B : A → Type 0)
+    → MatchOption found N (λ e. Stored L i k (images e) × B e) → is_some found ≡ true
     → (m : List (List ℕ)) × Stored L i k m
-stored_if None images N h e = cc
-stored_if (Some x) images N h e = (images x, h)
+found_stored None images N B h e = cc
+found_stored (Some x) images N B h e = (images x, h.0)
 
 -- one that finds none
 pub stored_none : {L : Lattice} {i k : ℕ} {m : List (List ℕ)} → get L.maps (i, k) ≡ None → Stored L i k m → ⊥
 stored_none {L} {i} {k} {m} e s = let f : get L.maps (i, k) ≡ Some m = s.found in cc
+
+-- ---- ways
+module _ {L : Lattice} {ms : List Member} where
+  same_member : (a : ℕ) (d : Member) → a < length ms
+      → slice_index_or ms a d ≡ slice_index_or ms a no_member
+  same_member a d h = get_or_default ms a d no_member h
+
+  pub link_way : (a b : ℕ) (d e : Member) (m : FieldMap) → a < length ms → b < length ms
+      → IsForcedBetween ms a b m
+      → IsWayFor L ms (number_at ms a) (number_at ms b)
+      (record { from = (slice_index_or ms a d).number; into = (slice_index_or ms b e).number; map = m })
+  link_way a b d e m la lb f =
+      let x = ap (λ r. r.number) (same_member a d la) in
+      let y = ap (λ r. r.number) (same_member b e lb) in
+      record { way = Ways.IsWay.link la lb (sym x) (sym y) f; from = x; into = y }
+
+  pub exit_way : (a b k i : ℕ) (d : Member) (link stored made : FieldMap) → a < length ms → b < length ms
+      → i ≡ number_at ms b
+      → IsForcedBetween ms a b link → Stored L i k stored.images × IsBetween L.rows i k stored
+      → made.source ≡ link.source → made.target ≡ stored.target
+      → made.images ≡ comp stored.target link.images stored.images
+      → IsWayFor L ms (number_at ms a) k
+      (record { from = (slice_index_or ms a d).number; into = k; map = made })
+  exit_way a b k i d link stored made la lb e f (s, t) p q r =
+      let x = ap (λ r. r.number) (same_member a d la) in
+      record {
+        way = Ways.IsWay.beyond {e = link} {f = stored} la lb (sym x) f (subst (λ j. Stored L j k stored.images) e s)
+            (subst (λ j. IsBetween L.rows j k stored) e t)
+            (λ j. record { source = p j; target = q j; images = r j });
+        from = x;
+        into = refl;
+      }
+
+  pub number_is : (b : ℕ) (d : Member) → b < length ms → (slice_index_or ms b d).number ≡ number_at ms b
+  number_is b d h = ap (λ r. r.number) (same_member b d h)
+
+  -- a link ends where the stored map begins
+  pub meets : (a b k i : ℕ) (link stored : FieldMap) → AreAtHome L ms → b < length ms → i ≡ number_at ms b
+      → IsForcedBetween ms a b link → Stored L i k stored.images × IsBetween L.rows i k stored
+      → stored.source ≡ link.target
+  meets a b k i link stored H lb e f (s, t) = t.source ∙ ap (field_at L.rows) e
+      ∙ sym (H.source b k stored.images lb (subst (λ j. Stored L j k stored.images) e s)) ∙ sym f.target
+
+-- ---- the maps out of the members, made in steps
+pub record AreOutletsBelow (L : Lattice) (ms : List Member) (old : List MapRow) (n : ℕ) (new : List MapRow)
+    : Type 0 where
+  pub ways : AreWays L ms new
+  pub kept : Keeps old new
+  pub linked : (a k : ℕ) → a < length ms → k < n → (HasPlace ms k → ⊥) → IsReached L ms a k
+      → IsHad L new (number_at ms a) k
+
+pub outlets_none : {L : Lattice} {ms : List Member} {old : List MapRow} → AreWays L ms old
+    → AreOutletsBelow L ms old 0 old
+outlets_none W = record { ways = W; kept = kept_same; linked = λ a k la h. absurd (omega (arith, h)) }
+
+module _ {L : Lattice} {ms : List Member} {old : List MapRow} {n : ℕ} {new : List MapRow}
+    (H : AreOutletsBelow L ms old n new) where
+  pub outlets_more : (newer last : List MapRow) → AreWays L ms newer → Keeps new newer
+      → ((a : ℕ) → a < length ms → IsReached L ms a n → IsHad L newer (number_at ms a) n)
+      → last ≡ newer → AreOutletsBelow L ms old (n + 1) last
+  outlets_more newer last W K f e = subst (AreOutletsBelow L ms old (n + 1)) (sym e) (record {
+    ways = W;
+    kept = kept_then H.kept K;
+    linked = λ a k la h none r. below_more (λ x. (HasPlace ms x → ⊥) → IsReached L ms a x → IsHad L newer (number_at ms a) x) n
+        (λ x l none r. had_kept K (H.linked a x la l none r)) (λ none r. f a la r) k h none r;
+  })
+
+  pub outlets_past : (last : List MapRow) → HasPlace ms n → last ≡ new → AreOutletsBelow L ms old (n + 1) last
+  outlets_past last p e = subst (AreOutletsBelow L ms old (n + 1)) (sym e) (record {
+    ways = H.ways;
+    kept = H.kept;
+    linked = λ a k la h none r. below_more (λ x. (HasPlace ms x → ⊥) → IsReached L ms a x → IsHad L new (number_at ms a) x) n
+        (λ x l none r. H.linked a x la l none r) (λ none r. absurd (none p)) k h none r;
+  })

@@ -9,6 +9,7 @@
 --     Goes ms a b           the degree of the a-th member divides that of the b-th
 --     IsExit L ms a b k     so does it, and L has a map from the b-th to k
 --     IsReached L ms a k    so it is through some place b
+--     AreAtHome L ms        members with stored maps begin in their fields of L
 --     IsWayFor L ms i k m   m is such a map from i to k
 --     IsAdded old map new   `new` is `old` and then the map, if there is one
 --     HasPlace ms k         a member has the number k
@@ -16,7 +17,7 @@
 use Rattle.std.specs.Prelude.{◌≡◌, ◌⊎◌, ℕ, ◌<◌, List, [], ◌∷◌, ◌++◌, length, slice_index_or, Option, MatchOption}
 use Prim.Native.Nat.{◌∣◌}
 use Rattle.alg_model.specs.Maps.{degree_of, comp}
-use Rattle.alg_model.specs.Lattices.{Lattice, Stored}
+use Rattle.alg_model.specs.Lattices.{Lattice, Stored, field_at}
 use Rattle.ff_embed.specs.SmallEmbeddings.{FieldMap}
 use Rattle.lat_core.specs.declared.rows.MapRow.{MapRow}
 use Rattle.lat_core.specs.SharedRows.{IsBetween}
@@ -68,6 +69,11 @@ pub record IsReached (L : Lattice) (ms : List Member) (a k : ℕ) : Type 0 where
   pub through : ℕ
   pub within : through < length ms
   pub exit : IsExit L ms a through k
+
+-- a member with a stored map is a field of the lattice
+pub record AreAtHome (L : Lattice) (ms : List Member) : Type 0 where
+  pub source : (b k : ℕ) (m : List (List ℕ)) → b < length ms → Stored L (number_at ms b) k m
+      → (map_at ms b).source ≡ field_at L.rows (number_at ms b)
 
 -- m is such a map from i to k
 pub record IsWayFor (L : Lattice) (ms : List Member) (i k : ℕ) (m : MapRow) : Type 0 where

@@ -1,5 +1,7 @@
 //! The degrees that two fields of a lattice lack.
 ghost use Rattle.std.specs.Prelude.{◌≡◌, ℕ, ◌↔◌, ◌<◌, ◌≤◌, All, AllPairs, Contains, IsTrue, length};
+ghost use Rattle.alg_model.specs.Maps.{degree_of};
+ghost use Rattle.alg_model.specs.Lattices.{field_at};
 ghost use Rattle.alg_model.specs.Candidates.{IsMember, AreMissing};
 ghost use Rattle.alg_compatible.specs.Theorems.{AreFields};
 ghost use Rattle.alg_choices.specs.Degrees.{AreDegrees};
@@ -38,17 +40,28 @@ fn member_degrees(lattice: &Lattice, from: u32, into: u32) -> ArrayVec<u32, MAX_
     ensures degrees { AreDegrees lattice.now from into (Contains result.items) }
     ensures small { All IsSmallDegree result.items }
 {
+    let _edition = lattice.edition();
     let mut degrees = ArrayVec::new();
     for number in 0..lattice.fields() {
         if is_member(lattice, from, into, number) {
-            degrees.push(lattice.field(number).field.degree());
+            degrees.push(degree_at(lattice, number));
         }
     }
     degrees
 }
 
-// The degrees that the set holds, lowest first.
+// The degree of a field.
+fn degree_at(lattice: &Lattice, number: u32) -> u32
+    requires { number < length lattice.now.rows }
+    ensures value { result ≡ degree_of (field_at lattice.now.rows number) }
+    ensures small { IsSmallDegree result }
+{
+    lattice.field(number).field.degree()
+}
+
+// The degrees that the set holds, lowest first; each is 1 to `MAX_DEGREE`.
 fn rising(set: &DegreeSet) -> DegreeList
+    requires { (d : ℕ) → Holds set.now d → IsSmallDegree d }
     ensures rising { AllPairs (λ a b. a < b) result.items }
     ensures exactly { (d : ℕ) → Contains result.items d ↔ Holds set.now d }
     ensures small { All IsSmallDegree result.items }

@@ -7,7 +7,7 @@ ghost use Rattle.alg_compatible.specs.Theorems.{AreFields};
 ghost use Rattle.lat_core.specs.SharedRows.{map_count, with_rows, AreBetween};
 ghost use Rattle.lat_world.specs.Worlds.{AreMembers};
 ghost use Rattle.lat_fill.specs.PrivateListing.{AreListed};
-ghost use Rattle.lat_fill.specs.PrivateWays.{AreWays, AreAllWays};
+ghost use Rattle.lat_fill.specs.PrivateWays.{AreAtHome, AreAllWays};
 
 use crate::degrees::missing;
 use crate::links::links;
@@ -31,7 +31,8 @@ pub struct Filled {
 
 // All maps that are added: those between members, and those out of them.
 fn ways(lattice: &Lattice, members: &[Member]) -> Result<Vec<MapRow>, NoMemory>
-    requires { AreMembers members.now }
+    requires members { AreMembers members.now }
+    requires home { AreAtHome lattice.now members.now }
     ensures { IfOk result (λ maps. AreAllWays lattice.now members.now maps.items) }
 {
     let mut maps = links(lattice, members)?;

@@ -1,5 +1,5 @@
 //! The fields that are added, and their maps into the target.
-ghost use Rattle.std.specs.Prelude.{◌≡◌, ℕ, ◌+◌, ◌<◌, ◌≤◌, ◌++◌, All, IfOk, OnOk, length};
+ghost use Rattle.std.specs.Prelude.{◌≡◌, ℕ, ◌+◌, ◌<◌, ◌≤◌, ◌++◌, List, All, IfOk, OnOk, length};
 ghost use Prim.Native.Nat.{◌∣◌};
 ghost use Rattle.alg_model.specs.Maps.{Field, degree_of, constants};
 ghost use Rattle.alg_model.specs.Lattices.{field_at};
@@ -29,6 +29,21 @@ fn made_field(number: u32, p: Prime, degree: u32) -> FieldRow
     }
 }
 
+// The field of a row.
+fn field_in(row: &FieldRow) -> &Field
+    ensures { result.now ≡ row.now.field }
+{
+    &row.field
+}
+
+// The field of this number.
+fn field_of(lattice: &Lattice, number: u32) -> &Field
+    requires { number < length lattice.now.rows }
+    ensures { result.now ≡ field_at lattice.now.rows number }
+{
+    field_in(lattice.field(number))
+}
+
 // A field of each degree, of the characteristic of field `into`.
 pub(crate) fn made_fields(
     lattice: &Lattice,
@@ -40,7 +55,7 @@ pub(crate) fn made_fields(
     requires degrees { All IsSmallDegree degrees.now }
     ensures { IfOk result (λ fields. AreMade lattice.now into degrees.now fields.items) }
 {
-    let p = lattice.field(into).field.prime();
+    let p = field_of(lattice, into).prime();
     let first = lattice.fields();
     let mut fields = Vec::new(lattice.allocator());
     for (place, degree) in degrees.iter().enumerate() {
@@ -55,6 +70,7 @@ fn made_map(field: &Field, target: &Field) -> Embedding
     requires divides { degree_of field.now ∣ degree_of target.now }
     ensures { IsMadeMap field.now target.now result }
 {
+    let _prime = target.prime();
     let roots = conjugate_roots(target, field.poly());
     match Embedding::of_root(field, target, &roots.items()[0]) {
         Some(map) => map,
@@ -77,9 +93,9 @@ pub(crate) fn list_made(
         → OnOk result (AreListed lattice.now E into phi (lattice.now.rows ++ fields.now)
         (length (lattice.now.rows ++ fields.now)) members.new.items) }
 {
-    let first = lattice.fields();
+    let (first, target) = (lattice.fields(), field_of(lattice, into));
     for (place, row) in fields.iter().enumerate() {
-        let map = made_map(&row.field, &lattice.field(into).field);
+        let map = made_map(field_in(row), target);
         members.push(Member {
             number: first + place as u32,
             map,

@@ -3,7 +3,7 @@ ghost use Rattle.std.specs.Prelude.{◌≡◌, ◌↔◌, ℕ, ◌<◌, [], Matc
 ghost use Rattle.alg_model.specs.Lattices.{Stored};
 ghost use Rattle.lat_world.specs.Worlds.{AreMembers};
 ghost use Rattle.lat_fill.specs.PrivateListing.{number_at};
-ghost use Rattle.lat_fill.specs.PrivateWays.{AreWays, IsHad, Keeps, IsExit, IsReached, IsWayFor, HasPlace};
+ghost use Rattle.lat_fill.specs.PrivateWays.{AreWays, IsHad, Keeps, IsExit, IsReached, IsWayFor, AreAtHome, HasPlace};
 
 use crate::links::add;
 use lat_core::{Lattice, MapRow, NoMemory};
@@ -19,6 +19,7 @@ fn outlet_through(
     k: u32,
 ) -> Option<MapRow>
     requires members { AreMembers members.now }
+    requires home { AreAtHome lattice.now members.now }
     requires first { a < length members.now }
     requires second { b < length members.now }
     ensures { MatchOption result (IsExit lattice.now members.now a b k → ⊥)
@@ -41,6 +42,7 @@ fn outlet_through(
 // lattice has none for the pair.
 fn outlet(lattice: &Lattice, members: &[Member], a: usize, k: u32) -> Option<MapRow>
     requires members { AreMembers members.now }
+    requires home { AreAtHome lattice.now members.now }
     requires place { a < length members.now }
     ensures { MatchOption result
         (IsReached lattice.now members.now a k → IsHad lattice.now [] (number_at members.now a) k)
@@ -65,6 +67,7 @@ fn add_outlets_to(
     maps: &mut Vec<MapRow>,
 ) -> Result<(), NoMemory>
     requires members { AreMembers members.now }
+    requires home { AreAtHome lattice.now members.now }
     requires ways { AreWays lattice.now members.now maps.old.items }
     ensures ways { OnOk result (AreWays lattice.now members.now maps.new.items) }
     ensures kept { OnOk result (Keeps maps.old.items maps.new.items) }
@@ -98,6 +101,7 @@ pub(crate) fn add_outlets(
     maps: &mut Vec<MapRow>,
 ) -> Result<(), NoMemory>
     requires members { AreMembers members.now }
+    requires home { AreAtHome lattice.now members.now }
     requires ways { AreWays lattice.now members.now maps.old.items }
     ensures ways { OnOk result (AreWays lattice.now members.now maps.new.items) }
     ensures kept { OnOk result (Keeps maps.old.items maps.new.items) }
