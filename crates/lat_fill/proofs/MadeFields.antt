@@ -10,7 +10,7 @@ use Rattle.alg_model.specs.Roots.{IsLeastRoot}
 use Rattle.alg_model.specs.Lattices.{Lattice, Row, no_row, field_at, IsCompatible}
 use Rattle.alg_model.specs.Candidates.{map_sending, embedding_by, IsCandidate, AreMissing}
 use Rattle.alg_model.specs.Filling.{IsMapInto, IsMadeRow, AreRowsAfter}
-use Rattle.alg_model.specs.Filling.IsMapInto as Into
+use Rattle.alg_model.specs.Filling as Model
 use Rattle.alg_galois.proofs.EmbeddingRoots.{root_exists}
 use Rattle.alg_splitting.specs.RootLists.{IsRootList}
 use Rattle.alg_splitting.proofs.RootLists.{root_list_least}
@@ -138,4 +138,4 @@ module _ (L : Lattice) (E F : ℕ) (phi : List (List ℕ)) (fields : List Row) (
 
       into : IsMapInto L E F phi (L.rows ++ fields) (length L.rows + k) m.map.images
       into = subst (IsMapInto L E F phi (L.rows ++ fields) (length L.rows + k)) (sym image)
-          (Into.made (omega arith) (omega (arith, length-append L.rows fields, h)) least)
+          (Model.IsMapInto.made (omega arith) (omega (arith, length-append L.rows fields, h)) least)

@@ -92,18 +92,23 @@ pub stored_none : {L : Lattice} {i k : ℕ} {m : List (List ℕ)} → get L.maps
 stored_none {L} {i} {k} {m} e s = let f : get L.maps (i, k) ≡ Some m = s.found in cc
 
 -- ---- ways
+same_member : (ms : List Member) (a : ℕ) (d : Member) → a < length ms
+    → slice_index_or ms a d ≡ slice_index_or ms a no_member
+same_member ms a d h = get_or_default ms a d no_member h
+
+pub number_is : (ms : List Member) (b : ℕ) (d : Member) → b < length ms
+    → (slice_index_or ms b d).number ≡ number_at ms b
+number_is ms b d h = ap (λ r. r.number) (same_member ms b d h)
+
 module _ {L : Lattice} {ms : List Member} where
-  same_member : (a : ℕ) (d : Member) → a < length ms
-      → slice_index_or ms a d ≡ slice_index_or ms a no_member
-  same_member a d h = get_or_default ms a d no_member h
 
   pub link_way : (a b : ℕ) (d e : Member) (m : FieldMap) → a < length ms → b < length ms
       → IsForcedBetween ms a b m
       → IsWayFor L ms (number_at ms a) (number_at ms b)
       (record { from = (slice_index_or ms a d).number; into = (slice_index_or ms b e).number; map = m })
   link_way a b d e m la lb f =
-      let x = ap (λ r. r.number) (same_member a d la) in
-      let y = ap (λ r. r.number) (same_member b e lb) in
+      let x = ap (λ r. r.number) (same_member ms a d la) in
+      let y = ap (λ r. r.number) (same_member ms b e lb) in
       record { way = Ways.IsWay.link la lb (sym x) (sym y) f; from = x; into = y }
 
   pub exit_way : (a b k i : ℕ) (d : Member) (link stored made : FieldMap) → a < length ms → b < length ms
@@ -114,7 +119,7 @@ module _ {L : Lattice} {ms : List Member} where
       → IsWayFor L ms (number_at ms a) k
       (record { from = (slice_index_or ms a d).number; into = k; map = made })
   exit_way a b k i d link stored made la lb e f (s, t) p q r =
-      let x = ap (λ r. r.number) (same_member a d la) in
+      let x = ap (λ r. r.number) (same_member ms a d la) in
       record {
         way = Ways.IsWay.beyond {e = link} {f = stored} la lb (sym x) f (subst (λ j. Stored L j k stored.images) e s)
             (subst (λ j. IsBetween L.rows j k stored) e t)
@@ -122,9 +127,6 @@ module _ {L : Lattice} {ms : List Member} where
         from = x;
         into = refl;
       }
-
-  pub number_is : (b : ℕ) (d : Member) → b < length ms → (slice_index_or ms b d).number ≡ number_at ms b
-  number_is b d h = ap (λ r. r.number) (same_member b d h)
 
   -- a link ends where the stored map begins
   pub meets : (a b k i : ℕ) (link stored : FieldMap) → AreAtHome L ms → b < length ms → i ≡ number_at ms b

@@ -67,6 +67,7 @@ pub fn fill(
     ensures linked { IfOk result (λ f.
         map_count f.lattice ≡ map_count lattice.now + f.linked) }
 {
+    let _edition = lattice.edition();
     let degrees = missing(lattice, from, into);
     let fields = made_fields(lattice, into, degrees.as_slice())?;
     let mut members = members(lattice, from, into, phi)?;

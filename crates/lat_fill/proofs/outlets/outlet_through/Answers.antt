@@ -6,7 +6,7 @@ use Rattle.lat_fill.proofs.outlets.outlet_through.Goals as goal
 
 pub compose-requires : goal.compose-requires
 compose-requires c = meets c.args.a c.args.b c.args.k _ c.in-Some-forced.link c.in-Some.stored.now c.requires.home c.requires.second
-    (number_is c.args.b c.index-members-b.result c.requires.second)
+    (number_is c.args.members.now c.args.b c.index-members-b.result c.requires.second)
     (subst (λ ms. IsForcedBetween ms c.args.a c.args.b c.in-Some-forced.link) c.of.ensures c.in-Some-forced.ensures.forced)
     c.in-Some.ensures
 
@@ -17,6 +17,6 @@ returns-in-None-forced c = λ exit.
 
 pub returns-in-Some-forced : goal.returns-in-Some-forced
 returns-in-Some-forced c = exit_way c.args.a c.args.b c.args.k _ c.index-members-a.result c.in-Some-forced.link c.in-Some.stored.now c.compose.result
-    c.requires.first c.requires.second (number_is c.args.b c.index-members-b.result c.requires.second)
+    c.requires.first c.requires.second (number_is c.args.members.now c.args.b c.index-members-b.result c.requires.second)
     (subst (λ ms. IsForcedBetween ms c.args.a c.args.b c.in-Some-forced.link) c.of.ensures c.in-Some-forced.ensures.forced)
     c.in-Some.ensures c.compose.ensures.source c.compose.ensures.target c.compose.ensures.images
