@@ -154,7 +154,7 @@ pub held_small : (set : List Bool) (xs ds : List ℕ) → ((d : ℕ) → Holds s
 held_small set xs ds same e small d h = All-contains IsSmallDegree ds d small (subst (λ ys. Contains ys d) e ((same d).0 h))
 
 -- ---- room
-room_is : (e : declared.Edition) → (edition_of e).room ≡ 200
+pub room_is : (e : declared.Edition) → (edition_of e).room ≡ 200
 room_is declared.TheVariants.One = refl
 room_is declared.TheVariants.Two = refl
 

@@ -5,9 +5,11 @@ use Rattle.std.proofs.lemmas.List.{get_or_append_left}
 use Prim.Native.Nat.{◌∣◌}
 use Rattle.alg_model.specs.Maps.{degree_of, comp}
 use Rattle.alg_model.specs.Lattices.{Lattice, Row, no_row, field_at, Stored, Grows, IsCompatible}
-use Rattle.alg_model.specs.Candidates.{embedding_by, IsCandidate, AreMissing}
+use Rattle.alg_model.specs.Candidates.{embedding_by, IsMember, IsCandidate, AreMissing}
+use Rattle.alg_model.specs.Candidates as Model
 use Rattle.alg_model.specs.Filling.{IsFilled}
 use Rattle.alg_compatible.specs.Theorems.{AreFields}
+use Rattle.alg_compatible.proofs.Laws.{missing_one_law}
 use Rattle.alg_compatible.proofs.Tables.{pair_total}
 use Rattle.alg_choices.specs.Linking.{IsListed, MayStore, Links}
 use Rattle.alg_choices.specs.Linking as Linking
@@ -22,7 +24,14 @@ use Rattle.lat_world.proofs.Links.{AreOfLattice, forced_is_link}
 use Rattle.lat_fill.specs.PrivateListing.{number_at, images_at, AreListed, AreMade}
 use Rattle.lat_fill.specs.PrivateWays.{IsWay, AreAllWays, IsListedPair, IsHad, HasPlace, Goes}
 use Rattle.lat_fill.specs.PrivateWays.IsWay.{link, beyond}
-use Rattle.lat_fill.proofs.MadeFields.{rows_after}
+use Rattle.lat_core.specs.declared.editions.Edition as declared
+use Rattle.lat_core.specs.Editions.{edition_of}
+use Rattle.lat_world.specs.Worlds.{AreMembers}
+use Rattle.lat_fill.specs.PrivateListing.{GoInto}
+use Rattle.lat_fill.specs.PrivateWays.{AreAtHome}
+use Rattle.lat_fill.proofs.DegreeLists.{room_is}
+use Rattle.lat_fill.proofs.MemberLists.{list_longer, are_members, at_home}
+use Rattle.lat_fill.proofs.MadeFields.{rows_after, added_go_into}
 
 -- some map
 abbrev no_map : MapRow
@@ -130,3 +139,93 @@ not_fewer {L} {M} G = not_smaller pair_total L.maps M.maps (λ q h. keeps q (get
         → is_some (get M.maps q) ≡ true
     keeps (i, k) (Some m) e h = ap is_some (G.maps {i = i} {j = k} {m = m} (record { found = e })).found
     keeps (i, k) None e h = cc
+
+-- ---- a whole call
+-- what is known once the fields with maps into the target are listed
+pub record IsFillable (L : Lattice) (E F : ℕ) (phi : List (List ℕ)) (fields : List Row)
+    (ms : List Member) : Type 0 where
+  pub compatible : IsCompatible L
+  pub are_fields : AreFields L E F
+  pub sending : Option (List ℕ × List ℕ)
+  pub value : List ℕ
+  pub candidate : IsCandidate L E F sending value
+  pub same : phi ≡ embedding_by L E F value
+  pub degrees : List ℕ
+  pub missing : AreMissing L E F degrees
+  pub made : AreMade L F degrees fields
+  pub listed : AreListed L E F phi (L.rows ++ fields) (length (L.rows ++ fields)) ms
+  pub room : length (L.rows ++ fields) ≤ L.edition.room
+  pub few : length (L.rows ++ fields) ≤ 200
+
+-- a candidate and its map
+abbrev pub IsCandidateMap : Lattice → ℕ → ℕ → List (List ℕ) → Type 0
+IsCandidateMap L E F phi = (sending : Option (List ℕ × List ℕ)) × (v : List ℕ) × IsCandidate L E F sending v
+    × (phi ≡ embedding_by L E F v)
+
+pub go_into : {L : Lattice} {E F : ℕ} (phi : List (List ℕ)) (degrees told : List ℕ) (fields shown : List Row)
+    → IsCompatible L → AreFields L E F → IsCandidateMap L E F phi → AreMissing L E F degrees
+    → told ≡ degrees → AreMade L F told fields → shown ≡ fields → GoInto L F shown
+go_into {L} {E} {F} phi degrees told fields shown C A (sending, v, c, same) missing e made f =
+    subst (GoInto L F) (sym f) (added_go_into C A c missing (subst (λ ds. AreMade L F ds fields) e made))
+
+pub fillable : {L : Lattice} {E F : ℕ} (e : declared.Edition) (phi : List (List ℕ)) (degrees told : List ℕ) (fields shown : List Row)
+    (old new : List Member)
+    → edition_of e ≡ L.edition → IsCompatible L → AreFields L E F → IsCandidateMap L E F phi
+    → ((ds : List ℕ) → AreMissing L E F ds → length L.rows + length ds ≤ L.edition.room)
+    → AreMissing L E F degrees → told ≡ degrees → AreMade L F told fields → shown ≡ fields
+    → AreListed L E F phi L.rows (length L.rows) old
+    → ((E : ℕ) (phi : List (List ℕ)) → AreListed L E F phi (L.rows ++ shown) (length L.rows) old
+    → AreListed L E F phi (L.rows ++ shown) (length (L.rows ++ shown)) new)
+    → IsFillable L E F phi fields new
+fillable {L} {E} {F} e phi degrees told fields shown old new ed C A (sending, v, c, same) room missing dt made fs H more =
+    let M : AreMade L F degrees fields = subst (λ ds. AreMade L F ds fields) dt made in
+    let r : length L.rows + length degrees ≤ L.edition.room = room degrees missing in
+    let n : length fields ≡ length degrees = M.count in
+    let k : length (L.rows ++ fields) ≤ L.edition.room = omega (arith, r, n, length-append L.rows fields) in
+    record {
+      compatible = C;
+      are_fields = A;
+      sending = sending;
+      value = v;
+      candidate = c;
+      same = same;
+      degrees = degrees;
+      missing = missing;
+      made = M;
+      listed = subst (λ rs. AreListed L E F phi (L.rows ++ rs) (length (L.rows ++ rs)) new) fs (more E phi (list_longer L E F phi shown A.target H));
+      room = k;
+      few = let x : L.edition.room ≡ 200 = sym (ap (λ y. y.room) ed) ∙ room_is e in omega (arith, k, x);
+    }
+
+module _ {L : Lattice} {E F : ℕ} {phi : List (List ℕ)} {fields : List Row} {ms : List Member}
+    (I : IsFillable L E F phi fields ms) where
+  pub world_members : (told : List Member) → told ≡ ms → AreMembers told
+  world_members told e = subst AreMembers (sym e) (are_members I.listed I.few
+      (let h : F < length L.rows = I.are_fields.target in omega (arith, h, length-append L.rows fields))
+      (Model.IsMember.of_target (I.compatible.compatible.identity F I.are_fields.target)))
+
+  pub world_home : (told : List Member) → told ≡ ms → AreAtHome L told
+  world_home told e = subst (AreAtHome L) (sym e) (at_home fields I.compatible I.listed)
+
+  -- what the lattice with these maps is
+  pub record Conclusion (shown : List Row) (maps : List MapRow) : Type 0 where
+    pub filled : IsFilled L E F phi (with_rows L shown maps)
+    pub compatible : IsCompatible (with_rows L shown maps)
+    pub grows : Grows L (with_rows L shown maps)
+    pub between : AreBetween (L.rows ++ shown) maps
+
+  pub conclude : (told : List Member) (maps listed : List MapRow) (shown : List Row) → told ≡ ms
+      → AreAllWays L told maps → shown ≡ fields → listed ≡ maps → Conclusion shown listed
+  conclude told maps listed shown e W f g =
+      let V : AreAllWays L ms maps = subst (λ xs. AreAllWays L xs maps) e W in
+      let both = is_compatible L E F phi fields ms maps I.compatible I.listed V I.are_fields I.candidate I.same I.missing I.made I.room in
+      subst (λ rs. Conclusion rs listed) (sym f) (subst (Conclusion fields) (sym g) (record {
+        filled = is_filled L E F phi fields ms maps I.compatible I.listed V I.are_fields I.candidate I.same I.missing I.made;
+        compatible = both.0;
+        grows = both.1;
+        between = are_between L E F phi fields ms maps I.compatible I.listed V;
+      }))
+
+  -- as many fields are added as degrees are missing
+  pub count_made : (degrees : List ℕ) → AreMissing L E F degrees → length fields ≡ length degrees
+  count_made degrees m = I.made.count ∙ ap length (missing_one_law L E F I.degrees degrees I.missing m)

@@ -1,7 +1,7 @@
 -- The added fields, and their maps into the target.
 use Rattle.std.proofs.Common.{◌≡◌, ℕ, ◌+◌, ◌<◌, ◌≤◌, List, [], ◌∷◌, ◌++◌, length, slice_index, slice_index_or, refl, sym, ap, ◌∙◌, subst, arith, length-append, Option}
 use Rattle.std.specs.List.{Contains}
-use Rattle.std.proofs.lemmas.List.{get_or_append_left, get_or-append-add}
+use Rattle.std.proofs.lemmas.List.{get_or_append_left, get_or-append-add, get_or_default}
 use Rattle.std.proofs.Math.Seq.{get_or-append_seam}
 use borrow.Author.Count.{below_more}
 use Prim.Native.Nat.{◌∣◌}
@@ -16,7 +16,8 @@ use Rattle.alg_splitting.specs.RootLists.{IsRootList}
 use Rattle.alg_splitting.proofs.RootLists.{root_list_least}
 use Rattle.alg_compatible.specs.Theorems.{AreFields}
 use Rattle.alg_compatible.proofs.Filling.{Inserted, made_divides, made_row, target_row}
-use Rattle.alg_choices.proofs.Linking.{inserted}
+use Rattle.alg_compatible.proofs.Candidates.{to_candidate}
+use Rattle.ff_embed.specs.SmallEmbeddings.{FieldMap}
 use Rattle.lat_core.specs.SharedRows.{IsBetween}
 use Rattle.lat_world.specs.declared.members.Member.{Member}
 use Rattle.lat_fill.specs.PrivateListing.{AreListed, AreMade, GoInto}
@@ -51,7 +52,7 @@ first_root {K} {F} roots items coefficients V W e d same R its =
 
 -- ---- the fields
 -- the rows after an insertion
-pub rows_after : {L : Lattice} {E F : ℕ} {degrees : List ℕ} {fields : List Row}
+abbrev pub rows_after : {L : Lattice} {E F : ℕ} {degrees : List ℕ} {fields : List Row}
     → AreMissing L E F degrees → AreMade L F degrees fields
     → AreRowsAfter L E F (L.rows ++ fields)
 rows_after {degrees = degrees} {fields = fields} missing made = record {
@@ -63,6 +64,21 @@ rows_after {degrees = degrees} {fields = fields} missing made = record {
   made_rows = made.made_rows;
 }
 
+-- the insertion that adds these fields
+abbrev insertion : {L : Lattice} {E F : ℕ} {sending : Option (List ℕ × List ℕ)} {v : List ℕ}
+    {degrees : List ℕ} {fields : List Row}
+    → IsCompatible L → AreFields L E F → IsCandidate L E F sending v
+    → AreMissing L E F degrees → AreMade L F degrees fields
+    → Inserted L E F (embedding_by L E F v) (L.rows ++ fields)
+insertion C A c missing made = record {
+  before = C.rows;
+  compatible = C.compatible;
+  source = A.source;
+  target = A.target;
+  candidate = to_candidate C.rows A.source A.target c;
+  after = rows_after missing made;
+}
+
 -- **each added field goes into the target**
 pub added_go_into : {L : Lattice} {E F : ℕ} {sending : Option (List ℕ × List ℕ)} {v : List ℕ}
     {degrees : List ℕ} {fields : List Row}
@@ -70,16 +86,24 @@ pub added_go_into : {L : Lattice} {E F : ℕ} {sending : Option (List ℕ × Lis
     → AreMissing L E F degrees → AreMade L F degrees fields → GoInto L F fields
 added_go_into {L} {E} {F} {sending} {v} {degrees} {fields} C A c missing made = record {
   same_characteristic = λ k h. (made.made_rows k (below k h)).characteristic;
-  divides = λ k h. subst (λ K. degree_of K ∣ degree_of (field_at L.rows F)) (ap (λ r. r.field) (made_row H k))
-      (subst (λ K. degree_of (field_at (L.rows ++ fields) (length L.rows + k)) ∣ degree_of K) (target_row H)
-      (made_divides H (record { place = k; number = refl; below = below k h })));
+  divides = λ k h. subst (λ K. degree_of K ∣ degree_of (field_at L.rows F)) (ap (λ r. r.field) (made_row (insertion C A c missing made) k))
+      (subst (λ K. degree_of (field_at (L.rows ++ fields) (length L.rows + k)) ∣ degree_of K) (target_row (insertion C A c missing made))
+      (made_divides (insertion C A c missing made) (record { place = k; number = refl; below = below k h })));
 }
   where
-    H : Inserted L E F (embedding_by L E F v) (L.rows ++ fields)
-    H = inserted C A c (rows_after missing made)
-
     below : (k : ℕ) → k < length fields → k < length degrees
     below k h = let e : length fields ≡ length degrees = made.count in omega (arith, h, e)
+
+-- ---- one added field
+pub row_field : (fields : List Row) (k : ℕ) (r : Row) (K : Field) → k < length fields
+    → r ≡ slice_index_or fields k r → K ≡ r.field → K ≡ field_at fields k
+row_field fields k r K h at e = e ∙ ap (λ x. x.field) (at ∙ get_or_default fields k r no_row h)
+
+pub divides_at : {K K' T T' : Field} → K ≡ K' → T ≡ T' → degree_of K' ∣ degree_of T' → degree_of K ∣ degree_of T
+divides_at {K' = K'} {T = T} e f d = subst (λ x. degree_of x ∣ degree_of T) (sym e) (subst (λ x. degree_of K' ∣ degree_of x) (sym f) d)
+
+pub made_map_at : {K K' T T' : Field} {m : FieldMap} → K ≡ K' → T ≡ T' → IsMadeMap K T m → IsMadeMap K' T' m
+made_map_at {K} {T' = T'} {m = m} e f h = subst (λ x. IsMadeMap x T' m) e (subst (λ x. IsMadeMap K x m) f h)
 
 -- ---- the fields in steps
 pub record AreMadeBelow (L : Lattice) (F : ℕ) (degrees : List ℕ) (n : ℕ) (fields : List Row)
@@ -90,11 +114,11 @@ pub record AreMadeBelow (L : Lattice) (F : ℕ) (degrees : List ℕ) (n : ℕ) (
       (slice_index_or fields k no_row)
 
 -- one field more
-pub made_more : {L : Lattice} {F n : ℕ} {degrees : List ℕ} (old new : List Row) (row : Row) {number p d : ℕ}
+pub made_more : {L : Lattice} {F n : ℕ} {degrees : List ℕ} (old new : List Row) (row : Row) (number p d : ℕ)
     → AreMadeBelow L F degrees n old → IsMadeRow number p d row → number ≡ length L.rows + n
     → p ≡ (field_at L.rows F).characteristic → d ≡ slice_index degrees n → new ≡ old ++ row ∷ []
     → AreMadeBelow L F degrees (n + 1) new
-made_more {L} {F} {n} {degrees} old new row H m en ep ed e = subst (AreMadeBelow L F degrees (n + 1)) (sym e) (record {
+made_more {L} {F} {n} {degrees} old new row number p d H m en ep ed e = subst (AreMadeBelow L F degrees (n + 1)) (sym e) (record {
   count = omega (arith, length-append old (row ∷ []), H.count);
   made_rows = below_more (λ k. IsMadeRow (length L.rows + k) (field_at L.rows F).characteristic (slice_index degrees k) (slice_index_or (old ++ row ∷ []) k no_row)) n
       (λ k h. subst (IsMadeRow (length L.rows + k) (field_at L.rows F).characteristic (slice_index degrees k))
