@@ -1,7 +1,7 @@
 -- The lists of degrees, made in steps.
-use Rattle.std.proofs.Common.{◌≡◌, ◌↔◌, ◌⊎◌, ℕ, suc, ◌+◌, ◌*◌, ◌/◌, ◌%◌, ◌<◌, ◌≤◌, List, [], ◌∷◌, ◌++◌, length, refl, sym, ap, ◌∙◌, subst, ⊎_elim, arith, AllPairs, true, false, is_some, Option, Some, None}
+use Rattle.std.proofs.Common.{◌≡◌, ◌↔◌, ℕ, ◌+◌, ◌*◌, ◌/◌, ◌%◌, ◌<◌, ◌≤◌, List, [], ◌∷◌, ◌++◌, length, refl, sym, ap, ◌∙◌, subst, ⊎_elim, arith, AllPairs, true, false, is_some, Option, Some, None}
 use Rattle.std.specs.List.{Contains}
-use Rattle.std.specs.Prelude.{MatchOption, IsTrue, Bool, All}
+use Rattle.std.specs.Prelude.{MatchOption, Bool, All}
 use Rattle.std.specs.FinMap.{get}
 use Rattle.std.proofs.lemmas.Bool.{cases_eq}
 use Rattle.std.proofs.lemmas.List.Elements.{Contains-push, Contains-append_left, Contains-push_cases, Contains-get_or, All-contains}
@@ -10,10 +10,10 @@ use Rattle.std.proofs.lemmas.Nat.Gcd.{le_of_dvd, mod-eq-zero_of_dvd}
 use native.Mathlib.Nat.{div-add-mod}
 use Prim.Native.Nat.{◌∣◌}
 use Rattle.alg_model.specs.Maps.{degree_of}
-use Rattle.alg_model.specs.Lattices.{Lattice, field_at, Stored, IsCompatible}
+use Rattle.alg_model.specs.Lattices.{Lattice, field_at, IsCompatible}
 use Rattle.alg_model.specs.Candidates.{IsMember, AreMissing}
 use Rattle.alg_model.specs.Candidates.IsMember.{of_source, of_target}
-use Rattle.alg_choices.specs.Degrees.{AreDegrees, InClosure}
+use Rattle.alg_choices.specs.Degrees.{AreDegrees}
 use Rattle.alg_choices.proofs.Members.{are_missing}
 use Rattle.lat_world.proofs.WorldLemmas.{lacks}
 use Rattle.ff_meet.specs.Degrees.{Holds}

@@ -1,6 +1,6 @@
 -- A lattice with the added fields and enough maps of the right kinds is filled.
-use Rattle.std.proofs.Common.{◌≡◌, ◌⊎◌, ℕ, ◌+◌, ◌-◌, ◌<◌, ◌≤◌, List, [], ◌∷◌, ◌++◌, length, slice_index_or, refl, sym, ap, ◌∙◌, subst, inl, inr, ⊎_elim, arith, length-append, Option, Some, None, is_some, true, false, All}
-use Rattle.std.specs.FinMap.{FinMap, get, len}
+use Rattle.std.proofs.Common.{◌≡◌, ◌⊎◌, ℕ, ◌+◌, ◌<◌, ◌≤◌, List, ◌++◌, length, slice_index_or, refl, sym, ap, ◌∙◌, subst, inl, inr, ⊎_elim, arith, length-append, Option, Some, None, is_some, true}
+use Rattle.std.specs.FinMap.{get}
 use Rattle.std.proofs.lemmas.List.{get_or_append_left}
 use Prim.Native.Nat.{◌∣◌}
 use Rattle.alg_model.specs.Maps.{degree_of, comp}
@@ -12,17 +12,16 @@ use Rattle.alg_compatible.specs.Theorems.{AreFields}
 use Rattle.alg_compatible.proofs.Laws.{missing_one_law}
 use Rattle.alg_compatible.proofs.Tables.{pair_total}
 use Rattle.alg_choices.specs.Linking.{IsListed, MayStore, Links}
-use Rattle.alg_choices.specs.Linking as Linking
 use Rattle.alg_choices.proofs.Linking.{listed_all, filled_by_linking, filled_is_compatible}
 use Rattle.lat_core.specs.declared.rows.MapRow.{MapRow}
-use Rattle.lat_core.specs.SharedRows.{IsBetween, map_count, with_rows, with_maps, AreBetween}
+use Rattle.lat_core.specs.SharedRows.{IsBetween, map_count, with_rows, AreBetween}
 use Rattle.lat_core.proofs.AddedMaps.{IsAdded, IsPairOf, stored_added_or_old, stored_some}
 use Rattle.lat_core.proofs.MapCounts.{not_smaller}
 use Rattle.lat_world.specs.declared.members.Member.{Member}
 use Rattle.lat_world.specs.Worlds.{map_at, no_member}
 use Rattle.lat_world.proofs.Links.{AreOfLattice, forced_is_link}
 use Rattle.lat_fill.specs.PrivateListing.{number_at, images_at, AreListed, AreMade}
-use Rattle.lat_fill.specs.PrivateWays.{IsWay, AreAllWays, IsListedPair, IsHad, HasPlace, Goes}
+use Rattle.lat_fill.specs.PrivateWays.{IsWay, AreAllWays, IsHad, Goes}
 use Rattle.lat_fill.specs.PrivateWays.IsWay.{link, beyond}
 use Rattle.lat_core.specs.declared.editions.Edition as declared
 use Rattle.lat_core.specs.Editions.{edition_of}

@@ -1,6 +1,5 @@
 -- The added fields, and their maps into the target.
-use Rattle.std.proofs.Common.{◌≡◌, ℕ, ◌+◌, ◌<◌, ◌≤◌, List, [], ◌∷◌, ◌++◌, length, slice_index, slice_index_or, refl, sym, ap, ◌∙◌, subst, arith, length-append, Option}
-use Rattle.std.specs.List.{Contains}
+use Rattle.std.proofs.Common.{◌≡◌, ℕ, ◌+◌, ◌<◌, List, [], ◌∷◌, ◌++◌, length, slice_index, slice_index_or, refl, sym, ap, ◌∙◌, subst, arith, length-append, Option}
 use Rattle.std.proofs.lemmas.List.{get_or_append_left, get_or-append-add, get_or_default}
 use Rattle.std.proofs.Math.Seq.{get_or-append_seam}
 use borrow.Author.Count.{below_more}
@@ -18,7 +17,6 @@ use Rattle.alg_compatible.specs.Theorems.{AreFields}
 use Rattle.alg_compatible.proofs.Filling.{Inserted, made_divides, made_row, target_row}
 use Rattle.alg_compatible.proofs.Candidates.{to_candidate}
 use Rattle.ff_embed.specs.SmallEmbeddings.{FieldMap}
-use Rattle.lat_core.specs.SharedRows.{IsBetween}
 use Rattle.lat_world.specs.declared.members.Member.{Member}
 use Rattle.lat_fill.specs.PrivateListing.{AreListed, AreMade, GoInto}
 use Rattle.lat_fill.specs.PrivateMaking.{IsMadeMap}

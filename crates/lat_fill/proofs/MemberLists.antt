@@ -13,7 +13,7 @@ use Rattle.alg_choices.proofs.Linking.{listed_none, listed_push, listed_skip}
 use Rattle.ff_embed.specs.SmallEmbeddings.{FieldMap}
 use Rattle.lat_core.specs.SharedRows.{IsBetween}
 use Rattle.lat_world.specs.declared.members.Member.{Member}
-use Rattle.lat_world.specs.Worlds.{no_member, map_at, AreMembers}
+use Rattle.lat_world.specs.Worlds.{no_member, AreMembers}
 use Rattle.lat_fill.specs.PrivateListing.{number_at, images_at, AreListed}
 use Rattle.lat_fill.specs.PrivateWays.{AreAtHome}
 

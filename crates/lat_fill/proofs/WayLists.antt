@@ -1,8 +1,7 @@
 -- The list of the maps that are added, made in steps.
-use Rattle.std.proofs.Common.{◌≡◌, ◌⊎◌, ℕ, ◌+◌, ◌<◌, ◌≤◌, List, [], ◌∷◌, ◌++◌, length, slice_index_or, refl, sym, ap, ◌∙◌, subst, inl, inr, ⊎_elim, arith, length-append, Option, Some, None, is_some, true, false}
+use Rattle.std.proofs.Common.{◌≡◌, ℕ, ◌+◌, ◌<◌, List, [], ◌∷◌, ◌++◌, length, slice_index_or, refl, sym, ap, ◌∙◌, subst, inl, inr, arith, length-append, Option, Some, None, is_some, true}
 use Rattle.std.specs.Prelude.{MatchOption}
 use Rattle.std.specs.FinMap.{get}
-use Rattle.std.proofs.lemmas.Bool.{cases_eq, cases_lt}
 use Rattle.std.proofs.lemmas.List.{get_or_append_left, get_or_default}
 use Rattle.std.proofs.lemmas.List.Elements.{All-push}
 use Rattle.std.proofs.Math.Seq.{get_or-append_seam}
@@ -13,7 +12,7 @@ use Rattle.ff_embed.specs.SmallEmbeddings.{FieldMap}
 use Rattle.lat_core.specs.declared.rows.MapRow.{MapRow}
 use Rattle.lat_core.specs.SharedRows.{IsBetween}
 use Rattle.lat_world.specs.declared.members.Member.{Member}
-use Rattle.lat_world.specs.Worlds.{no_member, map_at, IsForcedBetween}
+use Rattle.lat_world.specs.Worlds.{no_member, IsForcedBetween}
 use Rattle.lat_fill.specs.PrivateListing.{number_at}
 use Rattle.lat_fill.specs.PrivateWays.{IsWay, AreWays, IsListedPair, IsHad, Keeps, IsReached, AreAtHome, HasPlace, IsWayFor, IsAdded}
 use Rattle.lat_fill.specs.PrivateWays as Ways
@@ -101,7 +100,6 @@ pub number_is : (ms : List Member) (b : ℕ) (d : Member) → b < length ms
 number_is ms b d h = ap (λ r. r.number) (same_member ms b d h)
 
 module _ {L : Lattice} {ms : List Member} where
-
   pub link_way : (a b : ℕ) (d e : Member) (m : FieldMap) → a < length ms → b < length ms
       → IsForcedBetween ms a b m
       → IsWayFor L ms (number_at ms a) (number_at ms b)

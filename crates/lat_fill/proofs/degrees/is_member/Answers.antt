@@ -1,5 +1,4 @@
 use Rattle.std.proofs.Common.{sym, ◌∙◌}
-use Rattle.std.specs.FinMap.{get}
 use Rattle.alg_model.specs.Candidates.IsMember.{of_source, of_target}
 use Rattle.lat_core.specs.SharedRows.{IsBetween}
 use Rattle.lat_fill.proofs.DegreeLists.{told_member}

@@ -1,4 +1,4 @@
-use Rattle.std.proofs.Common.{◌<◌, ◌≤◌, ◌+◌, true, false, ℕ, [], ◌∷◌, ◌++◌, ◌≡◌, length, ap, sym, ◌∙◌, subst, All, arith, rules, length-append}
+use Rattle.std.proofs.Common.{◌<◌, ◌≤◌, ◌+◌, true, false, [], ◌∷◌, ◌++◌, ◌≡◌, length, ap, sym, ◌∙◌, subst, All, arith, rules, length-append}
 use Rattle.std.proofs.lemmas.List.Elements.{All-push}
 use Rattle.lat_fill.specs.PrivateListing.{AreDegreesBelow, IsSmallDegree}
 use Rattle.lat_fill.proofs.DegreeLists.{degrees_push, degrees_skip, degrees_all, few_fields}
@@ -16,7 +16,7 @@ pub loop-number-preserved : goal.loop-number-preserved
 loop-number-preserved c =
     let below = AreDegreesBelow c.args.lattice.now c.args.from c.args.into (c.loop-number.number + 1) in
     elim c.if-is_member.branch [
-      then-is_member w ↦
+      | then-is_member w ↦
           let e : c.if-is_member.degrees.items ≡ c.loop-number.degrees.items ++ w.degree_at.result ∷ [] = ap (λ v. v.items) w.degrees-is ∙ w.push.ensures.items in
           record {
             below = subst below (sym e) (degrees_push c.loop-number.degrees.items w.degree_at.result c.loop-number.invariant.below

@@ -1,4 +1,4 @@
-use Rattle.std.proofs.Common.{◌<◌, ◌≤◌, ◌≡◌, ◌+◌, ◌∷◌, ◌++◌, true, false, ℕ, [], length, length-append, ap, sym, ◌∙◌, subst, All, arith}
+use Rattle.std.proofs.Common.{◌≤◌, ◌≡◌, ◌+◌, ◌∷◌, ◌++◌, true, false, [], length, length-append, ap, sym, ◌∙◌, subst, All, arith}
 use Rattle.std.proofs.lemmas.List.Elements.{All-push, All-nil}
 use Rattle.lat_fill.specs.PrivateListing.{IsSmallDegree}
 use Rattle.lat_fill.proofs.DegreeLists.{IsRisingBelow, rising_none, rising_push, rising_skip}
@@ -16,7 +16,7 @@ pub loop-degree-preserved : goal.loop-degree-preserved
 loop-degree-preserved c =
     let list = IsRisingBelow c.args.set.now (c.loop-degree.degree + 1) in
     elim c.if-holds.branch [
-      then-holds w ↦
+      | then-holds w ↦
           let e : c.if-holds.degrees.items ≡ c.loop-degree.degrees.items ++ c.loop-degree.degree ∷ [] = ap (λ v. v.items) w.degrees-is ∙ w.push.ensures.items in
           let held = c.holds.ensures.0 w.if-holds.true in
           record {

@@ -1,4 +1,4 @@
-use Rattle.std.proofs.Common.{◌≡◌, ◌≤◌, length, ap, sym, ◌∙◌, subst, arith, rules}
+use Rattle.std.proofs.Common.{◌≡◌, ◌≤◌, length, sym, ◌∙◌, subst, arith, rules}
 use Rattle.alg_model.specs.Lattices.{Grows}
 use Rattle.alg_model.specs.Filling.{IsFilled}
 use Rattle.lat_core.specs.SharedRows.{map_count}

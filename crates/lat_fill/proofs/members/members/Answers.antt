@@ -9,7 +9,7 @@ loop-number-preserved c =
     let listed = AreListed c.args.lattice.now c.args.from c.args.into c.args.phi.now.images c.args.lattice.now.rows (c.loop-number.number + 1) in
     let end : c.loop-number.number < length c.args.lattice.now.rows = omega (arith, c.loop-number-test.true, c.fields-number-end.ensures.value) in
     elim c.match-member_map.branch [
-      in-Some+in_ok-push w ↦ subst listed (sym (ap (λ v. v.items) w.members-is ∙ w.in_ok-push.ensures.items))
+      | in-Some+in_ok-push w ↦ subst listed (sym (ap (λ v. v.items) w.members-is ∙ w.in_ok-push.ensures.items))
           (list_more c.loop-number.invariant (record { number = c.loop-number.number; map = w.in-Some.map }) refl
           w.in-Some.ensures.0 w.in-Some.ensures.1)
       | in_default w ↦ subst listed (sym (ap (λ v. v.items) w.members-is)) (list_past c.loop-number.invariant end w.in_default.ensures)

@@ -8,7 +8,7 @@ loop-k-init c = outlets_none c.requires.ways
 
 pub loop-k-preserved : goal.loop-k-preserved
 loop-k-preserved c = elim c.if-not-has_place.branch [
-  then-not-has_place+in_ok-add_outlets_to w ↦
+  | then-not-has_place+in_ok-add_outlets_to w ↦
       outlets_more c.loop-k.invariant w.add_outlets_to.new.maps.items c.if-not-has_place.maps.items
       w.in_ok-add_outlets_to.ensures.ways w.in_ok-add_outlets_to.ensures.kept w.in_ok-add_outlets_to.ensures.linked
       (ap (λ v. v.items) w.maps-is)
