@@ -1,6 +1,6 @@
 //! Choices of embeddings of the prime field of 7 elements into itself. Its generator is 0, which is
 //! its own image, and so is each value.
-use crate::field_values::value_of;
+use crate::values::value_of;
 use lat_choice::choice;
 use lat_core::{Edition, Lattice, Sending, Tagged};
 use std::process::Abort;

@@ -1,0 +1,7 @@
+//! Tests of what changes a lattice and of what is asked of it, across crates.
+#![tactic(auto)]
+
+#[cfg(test)]
+mod choices;
+#[cfg(test)]
+mod values;
