@@ -1,5 +1,6 @@
 //! The operations with an embedding that are timed.
-ghost use Rattle.std.specs.Prelude.{◌≡◌, IfSome};
+ghost use Rattle.std.specs.Prelude.{◌≡◌, length, All, IfSome};
+ghost use Rattle.field_timer.specs.declared.fields.TheConstants.{VALUES};
 ghost use Rattle.alg_model.specs.Maps.{field_values};
 
 use crate::fields::{VALUES, powers_of, some_value, some_values};
@@ -109,20 +110,35 @@ pub fn least_embedding(source: &Field, target: &Field) -> Option<Embedding>
 
 /// Does the operation so often, on values in turn, and gives the sum of the numbers that stand for
 /// its results.
-pub fn map_checksum(
+pub fn map_checksum(map: &Embedding, operation: MapOperation, count: u32) -> u32 {
+    let (source, target) = (map.source(), map.target());
+    let first = some_value(&source);
+    let values = powers_of(&source, &first);
+    let images = powers_of(&target, &map.apply(&first));
+    let others = some_values(&target);
+    let samples = (values.as_slice(), images.as_slice(), others.as_slice());
+    repeated(&source, &target, map, samples, operation, count)
+}
+
+// The sum of the numbers for these values.
+fn repeated(
     source: &Field,
     target: &Field,
     map: &Embedding,
+    samples: (&[Value], &[Value], &[Value]),
     operation: MapOperation,
     count: u32,
 ) -> u32
     requires source { source.now ≡ map.now.source }
     requires target { target.now ≡ map.now.target }
+    requires first { All (field_values map.now.source).Valid samples.0.now }
+    requires second { All (field_values map.now.target).Valid samples.1.now }
+    requires third { All (field_values map.now.target).Valid samples.2.now }
+    requires first_count { length samples.0.now ≡ VALUES }
+    requires second_count { length samples.1.now ≡ VALUES }
+    requires third_count { length samples.2.now ≡ VALUES }
 {
-    let first = some_value(source);
-    let (values, others) = (powers_of(source, &first), some_values(target));
-    let images = powers_of(target, &map.apply(&first));
-    let (values, images, others) = (values.as_slice(), images.as_slice(), others.as_slice());
+    let (values, images, others) = samples;
     let mut sum: u32 = 0;
     for i in 0..count as usize {
         let k = i % VALUES;

@@ -38,7 +38,7 @@ fn map_answer(task: &Task, operation: MapOperation, from: &[u8], into: &[u8]) ->
     let source = field_of(task.prime, from)?;
     let target = field_of(task.prime, into)?;
     let map = least_embedding(&source, &target)?;
-    Some(map_checksum(&source, &target, &map, operation, task.count))
+    Some(map_checksum(&map, operation, task.count))
 }
 
 // The checksum that is asked for, or None where there is none.
