@@ -43,18 +43,32 @@ pub fn field_of(p: u32, c: &[u8]) -> Option<Field> {
     }
 }
 
-/// Values of the field whose digits follow no pattern: a, a^2, .. for a high power a of the
-/// generator.
+/// A value whose digits follow no pattern: a high power of the generator.
+pub fn some_value(field: &Field) -> Value
+    ensures { (field_values field.now).Valid result }
+{
+    field.pow(&field.generator(), EXPONENT)
+}
+
+/// The powers a, a^2, .. of a value a.
+pub fn powers_of(field: &Field, a: &Value) -> ArrayVec<Value, VALUES>
+    requires value { (field_values field.now).Valid a.now }
+    ensures count { length result.items ≡ VALUES }
+    ensures valid { All (field_values field.now).Valid result.items }
+{
+    let mut values = ArrayVec::new();
+    let mut value = a.copy();
+    for _k in 0..VALUES {
+        values.push(value.copy());
+        value = field.mul(&value, a);
+    }
+    values
+}
+
+/// Values whose digits follow no pattern.
 pub fn some_values(field: &Field) -> ArrayVec<Value, VALUES>
     ensures count { length result.items ≡ VALUES }
     ensures valid { All (field_values field.now).Valid result.items }
 {
-    let first = field.pow(&field.generator(), EXPONENT);
-    let mut values = ArrayVec::new();
-    let mut value = first.copy();
-    for _k in 0..VALUES {
-        values.push(value.copy());
-        value = field.mul(&value, &first);
-    }
-    values
+    powers_of(field, &some_value(field))
 }

@@ -2,7 +2,9 @@
 ghost use Rattle.std.specs.Prelude.{◌<◌, length, All};
 ghost use Rattle.alg_model.specs.Maps.{field_values};
 
+use ff_factor::least_irreducible;
 use ff_field::{Field, Value};
+use ff_poly::Poly;
 
 /// An operation of a field.
 #[derive(Clone, Copy)]
@@ -27,6 +29,9 @@ pub enum Operation {
 
     /// The norm of a value.
     Norm,
+
+    /// The least irreducible polynomial of the field's degree.
+    Irreducible,
 }
 
 impl Operation {
@@ -40,6 +45,7 @@ impl Operation {
             "frobenius" => Some(Operation::Frobenius),
             "trace" => Some(Operation::Trace),
             "norm" => Some(Operation::Norm),
+            "irreducible" => Some(Operation::Irreducible),
             _ => None,
         }
     }
@@ -60,16 +66,30 @@ impl Operation {
             Operation::Frobenius => lowest_digit(&field.frob(a)),
             Operation::Trace => field.trace(a),
             Operation::Norm => field.norm(a),
+            Operation::Irreducible => first_of(least_irreducible_of(field).coefficients()),
         }
     }
 }
 
 // The lowest digit of a value.
-fn lowest_digit(a: &Value) -> u8 {
+pub(crate) fn lowest_digit(a: &Value) -> u8 {
     match a.digits().first() {
         Some(digit) => *digit,
         None => 0,
     }
+}
+
+// The first of some residues.
+pub(crate) fn first_of(residues: &[u8]) -> u8 {
+    match residues.first() {
+        Some(residue) => *residue,
+        None => 0,
+    }
+}
+
+// The least irreducible polynomial of the field's characteristic and degree.
+fn least_irreducible_of(field: &Field) -> Poly {
+    least_irreducible(field.prime(), field.degree())
 }
 
 // Makes the field anew, and gives its degree.

@@ -2,7 +2,7 @@ use Rattle.std.proofs.Common.{[], ◌∷◌, ◌+◌, length, All, ap, sym, subs
 use Rattle.std.proofs.lemmas.List.{length-append}
 use Rattle.std.proofs.lemmas.List.Elements.{All-nil, All-cons, All-append}
 use Rattle.alg_model.specs.Maps.{field_values}
-use Rattle.field_timer.proofs.fields.some_values.Goals as goal
+use Rattle.field_timer.proofs.fields.powers_of.Goals as goal
 
 pub loop-k-init : goal.loop-k-init
 loop-k-init c =
@@ -10,7 +10,7 @@ loop-k-init c =
     record {
       count = ap length c.new-values.ensures;
       valid = subst (All V) (sym c.new-values.ensures) (All-nil V);
-      value = subst V (sym c.copy-value.ensures) c.pow-first.ensures.valid;
+      value = subst V (sym c.copy-value.ensures) c.requires.value;
     }
 
 pub loop-k-preserved : goal.loop-k-preserved

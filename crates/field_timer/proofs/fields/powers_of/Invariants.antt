@@ -1,6 +1,6 @@
 use Rattle.std.proofs.Common.{◌≡◌, length, All}
 use Rattle.alg_model.specs.Maps.{field_values}
-use Rattle.field_timer.proofs.fields.some_values.Given as goal
+use Rattle.field_timer.proofs.fields.powers_of.Given as goal
 
 abbrev pub invariant-loop-k : goal.invariant-loop-k
 invariant-loop-k l = record {
