@@ -1,0 +1,7 @@
+mod WrittenPolynomials
+mod PrimeMaps
+mod Additions
+mod Declarations
+mod Insertions
+mod Replies
+mod ForcedAdditions
