@@ -1,22 +1,29 @@
 -- A lattice with a further field, its identity and the map of its prime field.
-use Rattle.std.proofs.Common.{◌≡◌, ◌≢◌, ◌⊎◌, inl, inr, ⊎_elim, ℕ, ◌+◌, ◌<◌, ◌≤◌, List, [], ◌∷◌, ◌++◌, length, slice_index_or, sym, ap, ◌∙◌, subst, arith, Some, refl, true, false}
+use Rattle.std.proofs.Common.{◌≡◌, ◌≢◌, ◌⊎◌, inl, inr, ⊎_elim, ℕ, ◌+◌, ◌<◌, ◌≤◌, List, [], ◌∷◌, ◌++◌, length, slice_index_or, sym, ap, ◌∙◌, subst, arith, Some, refl, true, false, Bool, ◌↔◌}
+use Rattle.std.specs.Prelude.{IsTrue}
 use Rattle.std.specs.FinMap.{get, insert}
+use Rattle.std.proofs.Common.{Result, Ok, Err}
+use Rattle.std.specs.Result.{OnErr}
+use Rattle.std.proofs.lemmas.Bool.{cases_lt}
 use Rattle.std.proofs.lemmas.List.{get_or_append_left}
 use Rattle.std.proofs.lemmas.List.Elements.{All-cons, All-nil}
 use Rattle.std.proofs.Math.Seq.{get_or-append_seam}
 use Rattle.alg_model.specs.Coefficients.{residues}
-use Rattle.alg_model.specs.Factors.{IsIrreducible}
-use Rattle.alg_model.specs.Maps.{identity_map}
+use Rattle.std.specs.Ordering.{nat_cmp}
+use Rattle.alg_model.specs.Factors.{IsIrreducible, IsLeastFactor}
+use Rattle.alg_model.specs.Maps.{Field, identity_map}
 use Rattle.alg_model.specs.Lattices.{Lattice, Row, no_row, field_at, Stored, IsRow, IsCompatible}
 use Rattle.alg_model.specs.Declaring.{IsDeclared, IsStoredWith, prime_map}
 use Rattle.alg_model.specs.Declaring.IsStoredWith.{kept, itself, of_prime}
 use Rattle.alg_compatible.proofs.Laws.{declaring_exists_law}
 use Rattle.alg_compatible.proofs.Transfer.{primes_within}
+use Rattle.ff_poly.specs.Polynomial.{Polynomial}
 use Rattle.lat_core.specs.Names.{IsDeclaredName}
 use Rattle.lat_core.specs.SharedRows.{IsBetween, with_rows, AreBetween}
-use Rattle.lat_core.specs.Step.{IsFreeName, IsWellFormed, declared_row, Declares}
+use Rattle.lat_core.specs.Step.{IsNamed, IsFreeName, IsWellFormed, declared_row, Declares}
 use Rattle.lat_core.specs.declared.requests.Request.TheVariants.{Declare}
-use Rattle.lat_core.specs.declared.replies.Reply.TheVariants.{Declared}
+use Rattle.lat_core.specs.declared.replies.StepRefusal.TheVariants.{NameTaken, Reducible}
+use Rattle.lat_core.specs.declared.replies.Reply.TheVariants.{Declared, Refused}
 use Rattle.lat_core.specs.declared.rows.MapRow.{MapRow}
 use Rattle.lat_core.proofs.StepExists.{declared_is_row}
 use Rattle.lat_core.proofs.StepKeeps.{request_keeps}
@@ -92,7 +99,7 @@ module _ {L : Lattice} (C : IsCompatible L) (row : Row) {maps : List MapRow}
   -- each of the maps goes between the fields of its numbers
   pub are_between : AreBetween (L.rows ++ row ∷ []) maps
   are_between = subst (AreBetween (L.rows ++ row ∷ [])) (sym A.maps_are)
-      (All-cons (λ m. IsBetween (L.rows ++ row ∷ []) m.from m.into m.map) (identity_row n row.field) _
+      (All-cons (λ m. IsBetween (L.rows ++ row ∷ []) m.from m.into m.map) (identity_row n row.field) (prime_map_row A.prime (field_at L.rows A.prime) n row.field ∷ [])
       (record { source = new; target = new })
       (All-cons (λ m. IsBetween (L.rows ++ row ∷ []) m.from m.into m.map) (prime_map_row A.prime (field_at L.rows A.prime) n row.field) []
       (record { source = old; target = new })
@@ -128,3 +135,59 @@ module _ {L : Lattice} {name : List ℕ} {p : ℕ} {f : List ℕ} (C : IsCompati
   declaring_takes_memory =
       let (M, d) = declaring_exists_law L (declared_row name p f) C (declared_is_row C D.proper D.well_formed D.irreducible) in
       (Declared (length L.rows) false, M, declares d, tt)
+
+-- ---- what the code finds
+-- the one row of a declaration, with the maps of a field of its number
+pub with_row : {L : Lattice} {name : List ℕ} (f : Polynomial) → IsCompatible L
+    → CanDeclare L name f.prime f.coefficients → {K : Field} → K.characteristic ≡ f.prime
+    → K.polynomial ≡ f.coefficients → {n : ℕ} → n ≡ length L.rows → {maps : List MapRow}
+    → AreMapsOf L n K maps → {rows : List Row} → rows ≡ record { name = name; field = K } ∷ []
+    → IsCompatible (with_rows L rows maps) × AreBetween (L.rows ++ rows) maps
+    × IsDeclared L (declared_row name f.prime f.coefficients) (with_rows L rows maps)
+with_row {L} {name} f C D {K} p g {n} k {maps} A {rows} e =
+    let B : AreMapsOf L (length L.rows) K maps = subst (λ m. AreMapsOf L m K maps) k A in
+    let row : Row = record { name = name; field = K } in
+    let same : row ≡ declared_row name f.prime f.coefficients = λ i. record { name = name; field = record { characteristic = p i; polynomial = g i } } in
+    let d : IsDeclared L (declared_row name f.prime f.coefficients) (with_rows L (row ∷ []) maps)
+    = subst (λ r. IsDeclared L r (with_rows L (row ∷ []) maps)) same (is_declared C row B) in
+    let P : List Row → Type 0 = λ rs. IsCompatible (with_rows L rs maps) × AreBetween (L.rows ++ rs) maps
+    × IsDeclared L (declared_row name f.prime f.coefficients) (with_rows L rs maps) in
+    subst P (sym e) (declared_compatible C D d, are_between C row B, d)
+
+-- the reply where field n has the name, by whether it is the field
+module _ {L : Lattice} {name : List ℕ} {f : Polynomial} {n : ℕ}
+    (w : IsWellFormed L.edition f.prime f.coefficients) (h : IsNamed L n name) (row : Row)
+    (at : row ≡ slice_index_or L.rows n no_row) {p q : ℕ} {gs hs : List ℕ}
+    (first : p ≡ row.field.characteristic) (second : gs ≡ row.field.polynomial) (third : q ≡ f.prime)
+    (fourth : hs ≡ f.coefficients) (b : Bool) (t : IsTrue b ↔ ((p ≡ q) × (gs ≡ hs))) where
+  pub same_declares : b ≡ true → Declares L name f.prime f.coefficients (Declared n true) L
+  same_declares e =
+      let (c, d) = t.0 e in
+      let one : row.field ≡ record { characteristic = f.prime; polynomial = f.coefficients }
+      = λ i. record { characteristic = (sym first ∙ c ∙ third) i; polynomial = (sym second ∙ d ∙ fourth) i } in
+      Declares.already w h (sym (ap (λ r. r.field) at) ∙ one)
+
+  pub other_declares : b ≡ false
+      → Declares L name f.prime f.coefficients (Refused (NameTaken n)) L
+  other_declares e = Declares.taken w h (λ d.
+      let same = ap (λ r. r.field) at ∙ d in
+      let yes : b ≡ true = t.1 (first ∙ ap (λ K. K.characteristic) same ∙ sym third, second ∙ ap (λ K. K.polynomial) same ∙ sym fourth) in
+      cc)
+
+-- the reply where the polynomial has a least factor
+pub reducible_declares : {L : Lattice} {name : List ℕ} {f : Polynomial} (g : Polynomial)
+    → IsWellFormed L.edition f.prime f.coefficients → IsFreeName L name → g.prime ≡ f.prime
+    → IsLeastFactor (residues f.prime) nat_cmp f.coefficients g.coefficients
+    → Declares L name f.prime f.coefficients (Refused (Reducible g)) L
+reducible_declares {L} {name} {f} g w free e l =
+    let P : ℕ → Type 0 = λ p. Declares L name f.prime f.coefficients (Refused (Reducible (record { prime = p; coefficients = g.coefficients }))) L in
+    subst P (sym e) (Declares.reducible w free l)
+
+-- where there isn't too little room there is enough
+pub has_room : {room count : ℕ} (b : Bool) → IsTrue b ↔ (room < count) → b ≡ false → count ≤ room
+has_room {room} {count} b t e = ⊎_elim (λ l. let yes : b ≡ true = t.1 l in cc) (λ g. g) (cases_lt room count)
+
+-- what holds at all holds of an error
+pub on_err : {T X : Type 0} (r : Result T X) {P : Type 0} → P → OnErr r P
+on_err (Ok x) p = tt
+on_err (Err e) p = p

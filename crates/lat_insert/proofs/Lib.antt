@@ -1,4 +1,5 @@
 mod WrittenPolynomials
+mod EditionFields
 mod PrimeMaps
 mod Additions
 mod Declarations

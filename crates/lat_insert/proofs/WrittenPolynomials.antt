@@ -1,6 +1,6 @@
 -- What a field can be declared by, from what a program finds of the numbers that are written.
-use Rattle.std.proofs.Common.{◌≡◌, ◌≢◌, ℕ, List, ◌<◌, ◌≤◌, ◌∙◌, sym, ap₂, subst, arith}
-use Rattle.std.specs.Prelude.{All, Contains, slice_index}
+use Rattle.std.proofs.Common.{◌≡◌, ◌≢◌, ℕ, List, ◌<◌, ◌≤◌, ◌∙◌, sym, ap₂, subst, arith, Option, Some, None}
+use Rattle.std.specs.Prelude.{All, Contains, SomeIff, slice_index}
 use Rattle.alg_model.specs.Coefficients.{mod_ops, residues}
 use Rattle.alg_model.specs.Polynomials.{trim, leading}
 use Rattle.alg_model.specs.Factors.{IsMonic}
@@ -10,9 +10,24 @@ use Rattle.alg_rings.proofs.Trims.{leading_at, trimmed_from_leading}
 use Rattle.alg_rings.proofs.Residues.{zero_test}
 use Rattle.ff_poly.specs.Polynomial.{Polynomial}
 use Rattle.ff_field.specs.SmallFields.{IsFirstTooLarge}
-use Rattle.lat_core.specs.declared.replies.StepRefusal.TheVariants.{CoefficientTooLarge, NotMonic}
+use Rattle.lat_core.specs.declared.replies.StepRefusal.TheVariants.{NotInTable, DegreeOutOfRange, CoefficientTooLarge, NotMonic}
 use Rattle.lat_core.specs.Step.{IsDegreeInRange, IsWellFormed, IsMalformed}
-use Rattle.lat_core.specs.Step.IsMalformed.{coefficient_too_large, not_monic}
+use Rattle.lat_core.specs.Step.IsMalformed.{not_in_table, degree_out_of_range, coefficient_too_large, not_monic}
+
+-- a number that isn't found is no characteristic
+pub unknown : (edition : Edition) (p : ℕ) (digits : List ℕ) (found : Option ℕ)
+    → SomeIff found (Contains edition.primes p) p → found ≡ None
+    → IsMalformed edition p digits (NotInTable p)
+unknown edition p digits None absent e = not_in_table absent
+unknown edition p digits (Some q) h e = cc
+
+module _ (edition : Edition) (p prime : ℕ) (digits numbers : List ℕ) (e : numbers ≡ digits)
+    (known : Contains edition.primes p × (prime ≡ p)) where
+  -- a degree that isn't that of a declared field
+  pub out_of_range : ¬ IsDegreeInRange edition numbers
+      → IsMalformed edition p digits (DegreeOutOfRange (degree numbers))
+  out_of_range outside =
+      subst (λ f. IsMalformed edition p f (DegreeOutOfRange (degree numbers))) e (degree_out_of_range known.0 outside)
 
 module _ (edition : Edition) (p prime : ℕ) (digits numbers : List ℕ) (e : numbers ≡ digits)
     (known : Contains edition.primes p × (prime ≡ p)) (range : IsDegreeInRange edition numbers) where

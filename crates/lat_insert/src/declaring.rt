@@ -1,6 +1,6 @@
 //! The declaring of a field.
 
-ghost use Rattle.std.specs.Prelude.{◌≡◌, ◌+◌, ◌<◌, ◌≤◌, ◌∷◌, [], length, All, Contains, slice_index, slice_index_or, IfSome, IfNone, IfOk, IfErr, OnErr};
+ghost use Rattle.std.specs.Prelude.{◌≡◌, ◌↔◌, ◌+◌, ◌<◌, ◌≤◌, ◌∷◌, [], length, All, Contains, slice_index, slice_index_or, IsTrue, IfSome, IfNone, IfOk, IfErr, OnErr};
 ghost use Rattle.std.specs.Ordering.{nat_cmp};
 ghost use Rattle.alg_model.specs.Coefficients.{residues};
 ghost use Rattle.alg_model.specs.Factors.{IsIrreducible, IsLeastFactor};
@@ -72,7 +72,14 @@ fn least_factor(edition: Edition, f: &Poly) -> Option<Poly>
     }
 }
 
-// The reply where this field, of this number, has the name already.
+// Whether two characteristics and two lists of coefficients are the same.
+fn are_same(p: u8, f: &[u8], q: u8, g: &[u8]) -> bool
+    ensures { IsTrue result ↔ ((p ≡ q) × (f.now ≡ g.now)) }
+{
+    p == q && f == g
+}
+
+// The reply where the field of this number has the name already.
 fn named_reply(lattice: &Lattice, name: &FieldName, number: u32, polynomial: &Poly) -> Reply
     requires well_formed { IsWellFormed lattice.now.edition polynomial.now.prime
         polynomial.now.coefficients }
@@ -81,9 +88,12 @@ fn named_reply(lattice: &Lattice, name: &FieldName, number: u32, polynomial: &Po
         result lattice.now }
 {
     let field = &lattice.field(number).field;
-    let same = field.prime() == polynomial.prime()
-        && field.poly().coefficients() == polynomial.coefficients();
-    if same {
+    if are_same(
+        field.prime().number(),
+        field.poly().coefficients(),
+        polynomial.prime().number(),
+        polynomial.coefficients(),
+    ) {
         Reply::Declared {
             number,
             already: true,
@@ -100,7 +110,13 @@ fn prime_number(edition: Edition, p: Prime) -> u32
     ensures at { slice_index (edition_of edition).primes result ≡ p }
 {
     let p = u32::from(p.number());
-    edition.characteristics().iter().position(|q| *q == p).unwrap() as u32
+    let primes = edition.characteristics();
+    for (number, q) in primes.iter().enumerate() {
+        if *q == p {
+            return number as u32;
+        }
+    }
+    unreachable!()
 }
 
 // The map of a prime field into a field of its characteristic.
@@ -111,6 +127,7 @@ fn map_of_prime(prime: &Field, field: &Field) -> Embedding
     ensures target { result.target ≡ field.now }
     ensures images { result.images ≡ prime_map field.now }
 {
+    let _characteristics = (prime.prime(), field.prime());
     match Embedding::of_root(prime, field, &field.zero()) {
         Some(map) => map,
         None => unreachable!(),
@@ -137,6 +154,14 @@ fn maps_of(lattice: &Lattice, number: u32, field: &Field) -> [MapRow; 2]
     ]
 }
 
+// The one field, with its name.
+fn row_of(name: &FieldName, field: Field) -> [FieldRow; 1]
+    ensures { result ≡ record { name = name.now; field = field } ∷ [] }
+{
+    let name = name.copy();
+    [FieldRow { name, field }]
+}
+
 // The lattice with the field of this name and this polynomial.
 fn with_field(lattice: &Lattice, name: &FieldName, polynomial: Poly) -> Result<Lattice, NoMemory>
     requires well_formed { IsWellFormed lattice.now.edition polynomial.prime
@@ -148,10 +173,11 @@ fn with_field(lattice: &Lattice, name: &FieldName, polynomial: Poly) -> Result<L
     ensures { IfOk result (IsDeclared lattice.now
         (declared_row name.now polynomial.prime polynomial.coefficients)) }
 {
+    let _edition = lattice.edition();
     let field = Field::new(polynomial);
     let maps = maps_of(lattice, lattice.fields(), &field);
-    let name = name.copy();
-    lattice.grown(&[FieldRow { name, field }], &maps)
+    let fields = row_of(name, field);
+    lattice.grown(&fields, &maps)
 }
 
 // Declares the field of a polynomial that can be declared, unless the name is taken, the polynomial
