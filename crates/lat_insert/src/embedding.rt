@@ -110,6 +110,7 @@ fn stored_reply(
         EmbedsField lattice.now from into sending.now reply lattice.now) }
     ensures new { IfNone result (get lattice.now.maps (from, into) ≡ None) }
 {
+    let _edition = lattice.edition();
     let map = lattice.map(from, into)?;
     if is_sent(map, sending) {
         Some(Reply::Embedded {
