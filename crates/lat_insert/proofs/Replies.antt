@@ -1,6 +1,7 @@
 -- What a request to embed a field is answered, from what a program finds.
-use Rattle.std.proofs.Common.{◌≡◌, ◌≢◌, ℕ, ◌+◌, ◌-◌, ◌%◌, ◌<◌, ◌≤◌, List, [], length, sym, ap, ap₂, ◌∙◌, subst, arith, Option, Some, None, Bool, true, false, ◌↔◌}
+use Rattle.std.proofs.Common.{◌≡◌, ◌≢◌, ℕ, ◌+◌, ◌-◌, ◌%◌, ◌<◌, ◌≤◌, List, [], length, sym, ap, ap₂, ◌∙◌, subst, arith, Option, Some, None, Bool, true, false, ◌↔◌, Result, Ok, Err}
 use Rattle.std.specs.Prelude.{IsTrue}
+use Rattle.std.specs.Result.{IfOk, OnErr}
 use Rattle.std.specs.FinMap.{get, len}
 use Rattle.std.proofs.lemmas.Nat.Gcd.{dvd_of_mod-eq-zero, mod-eq-zero_of_dvd}
 use Prim.Native.Nat.{◌∣◌}
@@ -20,6 +21,24 @@ use Rattle.lat_core.specs.declared.replies.Reply.TheVariants.{Embedded, Refused}
 use Rattle.lat_core.specs.Step.{IsWrongTag, ArePrescribed, prescribed_values, AreEmbeddable, EmbedsField}
 use Rattle.lat_insert.specs.PrivateEmbedding.{AddsMaps, IsMissingCount, FillsBy}
 use Rattle.lat_insert.proofs.Insertions.{filled_more, stored_fills, stored_misses_none}
+
+-- three facts of what a call gives are three of the same
+pub if_all_three : {T X : Type 0} {P Q R S : T → Type 0} (r : Result T X)
+    → ((t : T) → P t → Q t → R t → S t) → IfOk r P → IfOk r Q → IfOk r R → IfOk r S
+if_all_three (Ok t) f p q s = f t p q s
+if_all_three (Err e) f p q s = tt
+
+-- what holds of an error, and so something else
+pub on_err_weaker : {T X P Q : Type 0} (r : Result T X) → (P → Q) → OnErr r P → OnErr r Q
+on_err_weaker (Ok x) f p = tt
+on_err_weaker (Err e) f p = f p
+
+-- room for as many fields as degrees are missing
+pub room_for : {L : Lattice} {E F n : ℕ} → IsMissingCount L E F n → length L.rows + n ≤ L.edition.room
+    → (degrees : List ℕ) → AreMissing L E F degrees → length L.rows + length degrees ≤ L.edition.room
+room_for {L} {E} {F} (others, missing, count) room degrees also =
+    let same : others ≡ degrees = missing_one_law L E F others degrees missing also in
+    omega (arith, room, count, ap length same)
 
 -- ---- what speaks against an embedding
 module _ {L : Lattice} {E F : ℕ} {sending : Option Sending} {p q : ℕ}
