@@ -12,13 +12,12 @@ ghost use Rattle.lat_core.specs.declared.replies.Reply.TheVariants.{Refused};
 ghost use Rattle.lat_insert.specs.Insertions.{TakesMemory};
 ghost use Rattle.lat_insert.specs.PrivateEmbedding.{AddsMaps, IsMissingCount, FillsBy};
 
-use ff_embed::Embedding;
 use crate::room::lacks_room;
-use crate::stubs::{Filled, choice, fill, missing};
+use ff_embed::Embedding;
 use ff_field::{Field, Value};
-use lat_core::{
-    FieldName, Lattice, NoMemory, Reply, Sending, StepRefusal, Tagged,
-};
+use lat_choice::choice;
+use lat_core::{FieldName, Lattice, NoMemory, Reply, Sending, StepRefusal, Tagged};
+use lat_fill::{Filled, fill, missing};
 
 // Whether the digits are those of a value of the field.
 fn is_value(field: &Field, value: &Value) -> bool

@@ -7,7 +7,6 @@ mod embedding;
 mod laws;
 mod room;
 mod steps;
-mod stubs;
 
 pub use laws::insertions_are_forced;
 pub use steps::step;
