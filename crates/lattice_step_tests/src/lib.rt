@@ -4,4 +4,6 @@
 #[cfg(test)]
 mod choices;
 #[cfg(test)]
+mod insertions;
+#[cfg(test)]
 mod values;
