@@ -1,7 +1,7 @@
 -- A map put into the finite map of a lattice.
 use Rattle.std.proofs.Common.{◌≡◌, ◌≢◌, ◌⊎◌, inl, inr, ⊎_elim, ℕ, ◌+◌, ◌<◌, List, sym, ap, ◌∙◌, cond, true, false, arith, Some, None, Option, is_some, Ordering, Less, Equal, Greater, refl}
 use Rattle.std.specs.Ordering.{eq_by_cmp, is_eq}
-use Rattle.std.specs.FinMap.{FinMap, get, insert, len, contains_key, get-insert, len-insert}
+use Rattle.std.specs.FinMap.{FinMap, get, insert, len, get-insert, len-insert}
 use Rattle.std.proofs.lemmas.Bool.{cases_Bool}
 use Rattle.std.proofs.lemmas.Cmp.{tied_itself}
 use Rattle.alg_model.specs.Lattices.{Lattice, pair_cmp, Stored, Grows}

@@ -1,5 +1,5 @@
 -- A lattice with a further field, its identity and the map of its prime field.
-use Rattle.std.proofs.Common.{◌≡◌, ◌≢◌, ◌⊎◌, inl, inr, ⊎_elim, ℕ, ◌+◌, ◌<◌, ◌≤◌, List, [], ◌∷◌, ◌++◌, length, slice_index_or, sym, ap, ◌∙◌, subst, arith, Some, refl, true, false, Bool, ◌↔◌}
+use Rattle.std.proofs.Common.{◌≡◌, ⊎_elim, ℕ, ◌+◌, ◌<◌, ◌≤◌, List, [], ◌∷◌, ◌++◌, length, slice_index_or, sym, ap, ◌∙◌, subst, arith, Some, refl, true, false, Bool, ◌↔◌}
 use Rattle.std.specs.Prelude.{IsTrue}
 use Rattle.std.specs.FinMap.{get, insert}
 use Rattle.std.proofs.Common.{Result, Ok, Err}
@@ -12,7 +12,7 @@ use Rattle.alg_model.specs.Coefficients.{residues}
 use Rattle.std.specs.Ordering.{nat_cmp}
 use Rattle.alg_model.specs.Factors.{IsIrreducible, IsLeastFactor}
 use Rattle.alg_model.specs.Maps.{Field, identity_map}
-use Rattle.alg_model.specs.Lattices.{Lattice, Row, no_row, field_at, Stored, IsRow, IsCompatible}
+use Rattle.alg_model.specs.Lattices.{Lattice, Row, no_row, field_at, IsCompatible}
 use Rattle.alg_model.specs.Declaring.{IsDeclared, IsStoredWith, prime_map}
 use Rattle.alg_model.specs.Declaring.IsStoredWith.{kept, itself, of_prime}
 use Rattle.alg_compatible.proofs.Laws.{declaring_exists_law}

@@ -1,8 +1,8 @@
 -- The prime fields of a lattice of an edition, and the edition's limits.
-use Rattle.std.proofs.Common.{◌≡◌, ℕ, ◌<◌, ◌≤◌, List, [], ◌∷◌, length, slice_index_or, refl, sym, ap, ◌∙◌, subst, arith}
+use Rattle.std.proofs.Common.{◌≡◌, ℕ, ◌<◌, ◌≤◌, List, length, slice_index_or, refl, sym, ap, ◌∙◌, subst, arith}
 use Rattle.std.specs.Prelude.{slice_index}
 use Rattle.alg_model.specs.Maps.{Field}
-use Rattle.alg_model.specs.Lattices.{Lattice, Row, no_row, prime_row, IsCompatible}
+use Rattle.alg_model.specs.Lattices.{Lattice, no_row, prime_row, IsCompatible}
 use Rattle.alg_compatible.proofs.Transfer.{prime_row_at}
 use Rattle.lat_core.specs.declared.TheConstants.{MAX_FIELDS}
 use Rattle.lat_core.specs.declared.editions.Edition.{Edition}

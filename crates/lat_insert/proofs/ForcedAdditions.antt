@@ -1,8 +1,7 @@
 -- What an insertion adds is forced.
-use Rattle.std.proofs.Common.{◌≡◌, ℕ, List, refl, sym, ap, ◌∙◌, subst, Option}
+use Rattle.std.proofs.Common.{◌≡◌, ℕ, List, refl, sym, ◌∙◌, subst, Option}
 use Rattle.std.proofs.lemmas.List.Elements.{Contains-get_or}
-use Rattle.alg_model.specs.Maps.{degree_of}
-use Rattle.alg_model.specs.Lattices.{Lattice, field_at, IsCompatible}
+use Rattle.alg_model.specs.Lattices.{Lattice, IsCompatible}
 use Rattle.alg_model.specs.Candidates.{embedding_by, IsChoice}
 use Rattle.alg_model.specs.Filling.{IsFilled}
 use Rattle.alg_compatible.specs.Theorems.{AreFields}

@@ -1,17 +1,17 @@
 -- What an insertion in a compatible lattice stores, and what it leaves as it was.
-use Rattle.std.proofs.Common.{◌≡◌, ℕ, suc, ◌+◌, ◌<◌, ◌≤◌, List, [], ◌∷◌, ◌++◌, length, refl, sym, ap, ◌∙◌, subst, arith, length-append, Option, Some, None}
+use Rattle.std.proofs.Common.{◌≡◌, ℕ, ◌<◌, List, [], ◌∷◌, length, refl, ap, ◌∙◌, subst, arith, length-append, Option, None}
 use Rattle.std.specs.FinMap.{get, len}
-use Rattle.alg_model.specs.Maps.{generator, apply, field_values, constants, identity_map, comp}
+use Rattle.alg_model.specs.Maps.{generator, apply, constants, identity_map, comp}
 use Rattle.alg_model.specs.Roots.{IsRoot}
-use Rattle.alg_model.specs.Lattices.{Lattice, Row, field_at, Stored, Grows, IsCompatible}
-use Rattle.alg_model.specs.Candidates.{embedding_by, IsCandidate, IsChoice, AreMissing}
+use Rattle.alg_model.specs.Lattices.{Lattice, field_at, Stored, IsCompatible}
+use Rattle.alg_model.specs.Candidates.{embedding_by, IsCandidate, AreMissing}
 use Rattle.alg_model.specs.Filling.{IsFilled}
 use Rattle.alg_lattices.specs.Filling as Theory
 use Rattle.alg_lattices.proofs.StoredMaps.{into_stored}
 use Rattle.alg_lattices.proofs.Filling as TheoryFilling
 use Rattle.alg_galois.proofs.EmbeddingRoots.{generator_image_root}
 use Rattle.alg_compatible.specs.Theorems.{AreFields}
-use Rattle.alg_compatible.proofs.FiniteFields.{finite_fields, embedding_laws}
+use Rattle.alg_compatible.proofs.FiniteFields.{embedding_laws}
 use Rattle.alg_compatible.proofs.Transfer.{lattice_decided, to_theory, field_finite}
 use Rattle.alg_compatible.proofs.Candidates.{to_candidate}
 use Rattle.alg_compatible.proofs.Filling.{Inserted, is_insertion, maps_after, target_row}

@@ -6,3 +6,4 @@ mod Declarations
 mod Insertions
 mod Replies
 mod ForcedAdditions
+mod StepsTaken

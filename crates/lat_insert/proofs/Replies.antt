@@ -4,17 +4,15 @@ use Rattle.std.specs.Prelude.{IsTrue}
 use Rattle.std.specs.Result.{IfOk, OnErr}
 use Rattle.std.specs.FinMap.{get, len}
 use Rattle.std.proofs.lemmas.Nat.Gcd.{dvd_of_mod-eq-zero, mod-eq-zero_of_dvd}
-use Prim.Native.Nat.{◌∣◌}
-use Rattle.alg_model.specs.Maps.{Field, degree_of, generator, apply}
+use Rattle.alg_model.specs.Maps.{degree_of, generator, apply}
 use Rattle.alg_model.specs.Lattices.{Lattice, field_at, Stored, IsCompatible}
-use Rattle.alg_model.specs.Candidates.{embedding_by, IsSent, IsCandidate, IsChoice, AreMissing}
-use Rattle.alg_model.specs.Filling.{IsFilled}
+use Rattle.alg_model.specs.Candidates.{IsSent, IsCandidate, IsChoice, AreMissing}
 use Rattle.alg_compatible.specs.Theorems.{AreFields}
 use Rattle.alg_compatible.proofs.Laws.{filling_exists_law, missing_one_law}
 use Rattle.alg_choices.specs.Fitting.{AreGiven}
 use Rattle.alg_choices.proofs.Laws.{stored_law, only_law}
 use Rattle.ff_embed.specs.SmallEmbeddings.{FieldMap}
-use Rattle.lat_core.specs.SharedRows.{IsBetween, map_count}
+use Rattle.lat_core.specs.SharedRows.{IsBetween}
 use Rattle.lat_core.specs.declared.tagged.Sending.{Sending}
 use Rattle.lat_core.specs.declared.replies.StepRefusal.TheVariants.{DifferentCharacteristic, DegreeDoesNotDivide, WrongField, NoCompatibleRoot, TooManyFields}
 use Rattle.lat_core.specs.declared.replies.Reply.TheVariants.{Embedded, Refused}

@@ -1,9 +1,8 @@
 -- What a field can be declared by, from what a program finds of the numbers that are written.
-use Rattle.std.proofs.Common.{◌≡◌, ◌≢◌, ℕ, List, ◌<◌, ◌≤◌, ◌∙◌, sym, ap₂, subst, arith, Option, Some, None}
+use Rattle.std.proofs.Common.{◌≡◌, ◌≢◌, ℕ, List, ◌<◌, ◌∙◌, sym, ap₂, subst, arith, Option, Some, None}
 use Rattle.std.specs.Prelude.{All, Contains, SomeIff, slice_index}
-use Rattle.alg_model.specs.Coefficients.{mod_ops, residues}
+use Rattle.alg_model.specs.Coefficients.{mod_ops}
 use Rattle.alg_model.specs.Polynomials.{trim, leading}
-use Rattle.alg_model.specs.Factors.{IsMonic}
 use Rattle.alg_model.specs.Values.{degree}
 use Rattle.alg_model.specs.Lattices.{Edition}
 use Rattle.alg_rings.proofs.Trims.{leading_at, trimmed_from_leading}

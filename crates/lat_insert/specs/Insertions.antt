@@ -1,7 +1,7 @@
 -- Which steps take memory.
 --     AddsToLattice reply         by this reply a field is declared, or maps are added
 --     TakesMemory L request       the reply to the request is one of these
-use Rattle.std.specs.Prelude.{ℕ, ◌<◌, true, false}
+use Rattle.std.specs.Prelude.{◌<◌, true, false}
 use Rattle.alg_model.specs.Lattices.{Lattice}
 use Rattle.lat_core.specs.declared.requests.Request.{Request}
 use Rattle.lat_core.specs.declared.replies.Reply.{Reply}

@@ -97,12 +97,7 @@ fn is_sent(map: &Embedding, sending: &Option<Sending>) -> bool
 
 // The reply where a map is stored for the two fields already, which is then the only candidate;
 // None where none is stored.
-fn stored_reply(
-    lattice: &Lattice,
-    from: u32,
-    into: u32,
-    sending: &Option<Sending>,
-) -> Option<Reply>
+fn stored_reply(lattice: &Lattice, from: u32, into: u32, sending: &Option<Sending>) -> Option<Reply>
     requires fields { AreFields lattice.now from into }
     requires fit { AreEmbeddable lattice.now from into sending.now }
     ensures stored { IfSome result (λ reply.

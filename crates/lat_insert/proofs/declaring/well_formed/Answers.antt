@@ -16,7 +16,7 @@ returns-then-degree-lt2-clause-malformed c =
     out_of_range (edition_of c.args.edition) c.args.p c.in-Some.prime c.args.digits.now c.numbers-numbers.result.now
     c.numbers-numbers.ensures.value c.in-Some.ensures
     (λ (low, high). elim c.then-degree-lt2.branch [
-      then-degree-lt2-via-then-degree-lt2 w ↦ omega (arith, low)
+      | then-degree-lt2-via-then-degree-lt2 w ↦ omega (arith, low)
       | then-degree-lt2-via-else-degree-lt2+then-degree-top w ↦ omega (arith, high, w.top.ensures)
     ])
 

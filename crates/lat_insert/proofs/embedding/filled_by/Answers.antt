@@ -9,9 +9,14 @@ use Rattle.lat_insert.proofs.Replies.{if_all_three}
 use Rattle.lat_insert.proofs.embedding.filled_by.Goals as goal
 
 pub fill-requires-clause-candidate : goal.fill-requires-clause-candidate
-fill-requires-clause-candidate c = (None, c.args.image.now, c.requires.candidate, c.in-Some.ensures.images
-    ∙ ap₂ (λ K I. powers K c.args.image.now (degree_of I)) (ap (λ r. r.field) (c.target.view_is ∙ c.field-target.ensures.value))
-    (ap (λ r. r.field) (c.source.view_is ∙ c.field-source.ensures.value)))
+fill-requires-clause-candidate c = (
+  None,
+  c.args.image.now,
+  c.requires.candidate,
+  c.in-Some.ensures.images
+      ∙ ap₂ (λ K I. powers K c.args.image.now (degree_of I)) (ap (λ r. r.field) (c.target.view_is ∙ c.field-target.ensures.value))
+      (ap (λ r. r.field) (c.source.view_is ∙ c.field-source.ensures.value)),
+)
 
 pub unreachable-requires : goal.unreachable-requires
 unreachable-requires c =
