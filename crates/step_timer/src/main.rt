@@ -9,7 +9,7 @@ mod requests;
 use lat_core::{Edition, Lattice, NoMemory};
 use lat_insert::step;
 use requests::request_of;
-use std::io::BufReader;
+use std::io::{BufRead, BufReader};
 use std::process::ExitCode;
 use std::{env, io};
 
