@@ -14,7 +14,7 @@ use Rattle.lat_core.specs.SharedRows.{IsBetween}
 use Rattle.lat_world.specs.declared.members.Member.{Member}
 use Rattle.lat_world.specs.Worlds.{no_member, IsForcedBetween}
 use Rattle.lat_fill.specs.PrivateListing.{number_at}
-use Rattle.lat_fill.specs.PrivateWays.{IsWay, AreWays, IsListedPair, IsHad, Keeps, IsReached, AreAtHome, HasPlace, IsWayFor, IsAdded}
+use Rattle.lat_fill.specs.PrivateWays.{IsWay, AreWays, IsListedPair, IsHad, Keeps, IsReached, AreAtHome, HasPlace, IsWayFor, IsAdded, Provides}
 use Rattle.lat_fill.specs.PrivateWays as Ways
 
 -- ---- pairs of a list
@@ -53,27 +53,27 @@ had_by_lattice maps (inl s) = inl s
 had_by_lattice maps (inr p) = absurd (let h = p.within in omega (arith, h))
 
 -- ---- one map more
--- what is known once a map that is needed for a pair was added
-pub record Step (L : Lattice) (ms : List Member) (Needed : Type 0) (i k : ℕ) (old new : List MapRow)
-    : Type 0 where
-  pub ways : AreWays L ms new
-  pub kept : Keeps old new
-  pub had : Needed → IsHad L new i k
-
-pub added_step : {L : Lattice} {ms : List Member} {Needed : Type 0} {i k : ℕ} {old new : List MapRow}
+-- a map for the pair was added, if there is one, or the lattice has one
+pub provides : {L : Lattice} {ms : List Member} {Needed : Type 0} {i k : ℕ} {old new : List MapRow}
     (map : Option MapRow) → AreWays L ms old
-    → MatchOption map (Needed → IsHad L [] i k) (IsWayFor L ms i k) → IsAdded old map new
-    → Step L ms Needed i k old new
-added_step {L} {ms} {Needed} {i} {k} {old} {new} None W h e = subst (Step L ms Needed i k old) (sym e) (record {
+    → MatchOption map (Needed → ⊥) (IsWayFor L ms i k) → IsAdded old map new
+    → Provides L ms Needed i k old new
+provides {L} {ms} {Needed} {i} {k} {old} {new} None W h e = subst (Provides L ms Needed i k old) (sym e) (record {
   ways = W;
   kept = kept_same;
-  had = λ n. had_by_lattice old (h n);
+  had = λ n. absurd (h n);
 })
-added_step {L} {ms} {Needed} {i} {k} {old} {new} (Some m) W h e = subst (Step L ms Needed i k old) (sym e) (record {
+provides {L} {ms} {Needed} {i} {k} {old} {new} (Some m) W h e = subst (Provides L ms Needed i k old) (sym e) (record {
   ways = record { each = All-push (IsWay L ms) old m W.each h.way };
   kept = record { kept = λ i k p. pair_left (m ∷ []) p };
   had = λ n. inr (pair_last old m h.from h.into);
 })
+
+pub provides_stored : {L : Lattice} {ms : List Member} {Needed : Type 0} {i k : ℕ} {old new : List MapRow}
+    → AreWays L ms old → (Needed → (m : List (List ℕ)) × Stored L i k m) → new ≡ old
+    → Provides L ms Needed i k old new
+provides_stored {L} {ms} {Needed} {i} {k} {old} W h e = subst (Provides L ms Needed i k old) (sym e)
+    (record { ways = W; kept = kept_same; had = λ n. inl (h n) })
 
 pub no_ways : {L : Lattice} {ms : List Member} {maps : List MapRow} → maps ≡ [] → AreWays L ms maps
 no_ways {L} {ms} e = subst (AreWays L ms) (sym e) (record { each = λ x d h. absurd (omega arith) })

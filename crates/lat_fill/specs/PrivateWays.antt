@@ -6,6 +6,7 @@
 --     AreWays L ms maps     so is each of these maps
 --     IsHad L maps i k      L or one of the maps has the pair (i, k)
 --     Keeps L old new       the pairs that are had with `old` are had with `new`
+--     Provides L ms Needed i k old new     old ways are kept, and the pair (i, k) is had if needed
 --     Goes ms a b           the degree of the a-th member divides that of the b-th
 --     IsExit L ms a b k     so does it, and L has a map from the b-th to k
 --     IsReached L ms a k    so it is through some place b
@@ -55,6 +56,13 @@ IsHad L maps i k = ((m : List (List ℕ)) × Stored L i k m) ⊎ IsListedPair ma
 
 pub record Keeps (old new : List MapRow) : Type 0 where
   pub kept : (i k : ℕ) → IsListedPair old i k → IsListedPair new i k
+
+-- new has what old has, ways alone, and if it is needed the pair (i, k)
+pub record Provides (L : Lattice) (ms : List Member) (Needed : Type 0) (i k : ℕ)
+    (old new : List MapRow) : Type 0 where
+  pub ways : AreWays L ms new
+  pub kept : Keeps old new
+  pub had : Needed → IsHad L new i k
 
 abbrev pub Goes : List Member → ℕ → ℕ → Type 0
 Goes ms a b = degree_of (map_at ms a).source ∣ degree_of (map_at ms b).source

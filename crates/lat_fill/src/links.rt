@@ -1,9 +1,9 @@
 //! The maps between the fields that go into the target.
-ghost use Rattle.std.specs.Prelude.{◌≡◌, ℕ, ◌<◌, [], MatchOption, IfOk, OnOk, length};
-ghost use Rattle.alg_model.specs.Lattices.{Stored};
+ghost use Rattle.std.specs.Prelude.{◌≡◌, ◌↔◌, ℕ, ◌<◌, MatchOption, IfOk, OnOk, IsTrue, length};
+ghost use Rattle.alg_model.specs.Lattices.{Lattice, Stored};
 ghost use Rattle.lat_world.specs.Worlds.{AreMembers};
 ghost use Rattle.lat_fill.specs.PrivateListing.{number_at};
-ghost use Rattle.lat_fill.specs.PrivateWays.{AreWays, IsHad, Keeps, Goes, IsWayFor, IsAdded};
+ghost use Rattle.lat_fill.specs.PrivateWays.{AreWays, IsHad, Keeps, Provides, Goes, IsWayFor, IsAdded};
 
 use lat_core::{Lattice, MapRow, NoMemory};
 use lat_world::{Member, World};
@@ -18,26 +18,70 @@ pub(crate) fn add(maps: &mut Vec<MapRow>, map: Option<MapRow>) -> Result<(), NoM
     Ok(())
 }
 
-// The map from the `a`-th to the `b`-th member that agrees with their maps into the target, if the
-// lattice has none for the pair; None also where the degree of the one doesn't divide that of the
-// other.
-fn link(lattice: &Lattice, members: &[Member], a: usize, b: usize) -> Option<MapRow>
+// Whether the degree of the `a`-th member divides that of the `b`-th.
+pub(crate) fn goes(members: &[Member], a: usize, b: usize) -> bool
+    requires first { a < length members.now }
+    requires second { b < length members.now }
+    ensures { IsTrue result ↔ Goes members.now a b }
+{
+    members[b].map.source_degree() % members[a].map.source_degree() == 0
+}
+
+// The map from the `a`-th to the `b`-th member that agrees with their maps into the target; None
+// exactly where the degree of the one doesn't divide that of the other.
+fn link(members: &[Member], a: usize, b: usize) -> Option<MapRow>
     requires members { AreMembers members.now }
     requires first { a < length members.now }
     requires second { b < length members.now }
-    ensures { MatchOption result
-        (Goes members.now a b → IsHad lattice.now [] (number_at members.now a)
-        (number_at members.now b))
-        (IsWayFor lattice.now members.now (number_at members.now a) (number_at members.now b)) }
+    ensures { (L : Lattice) → MatchOption result (Goes members.now a b → ⊥)
+        (IsWayFor L members.now (number_at members.now a) (number_at members.now b)) }
 {
     let (from, into) = (members[a].number, members[b].number);
-    if lattice.map(from, into).is_some() {
-        return None;
-    }
     match World::of(members).forced(a, b) {
         Some(map) => Some(MapRow { from, into, map }),
         None => None,
     }
+}
+
+// Appends this map, if there is one.
+#[inline(never)]
+fn push_link(
+    lattice: &Lattice,
+    members: &[Member],
+    a: usize,
+    b: usize,
+    maps: &mut Vec<MapRow>,
+) -> Result<(), NoMemory>
+    requires members { AreMembers members.now }
+    requires first { a < length members.now }
+    requires second { b < length members.now }
+    requires ways { AreWays lattice.now members.now maps.old.items }
+    ensures { OnOk result (Provides lattice.now members.now (Goes members.now a b)
+        (number_at members.now a) (number_at members.now b) maps.old.items maps.new.items) }
+{
+    add(maps, link(members, a, b))
+}
+
+// Appends the map from the `a`-th to the `b`-th member, if there is one and the lattice has none
+// for the pair.
+fn add_link(
+    lattice: &Lattice,
+    members: &[Member],
+    a: usize,
+    b: usize,
+    maps: &mut Vec<MapRow>,
+) -> Result<(), NoMemory>
+    requires members { AreMembers members.now }
+    requires first { a < length members.now }
+    requires second { b < length members.now }
+    requires ways { AreWays lattice.now members.now maps.old.items }
+    ensures { OnOk result (Provides lattice.now members.now (Goes members.now a b)
+        (number_at members.now a) (number_at members.now b) maps.old.items maps.new.items) }
+{
+    if !goes(members, a, b) || lattice.map(members[a].number, members[b].number).is_some() {
+        return Ok(());
+    }
+    push_link(lattice, members, a, b, maps)
 }
 
 // Appends the maps to the `b`-th member.
@@ -56,7 +100,7 @@ fn add_links_to(
         → IsHad lattice.now maps.new.items (number_at members.now a) (number_at members.now b)) }
 {
     for a in 0..members.len() {
-        add(maps, link(lattice, members, a, b))?;
+        add_link(lattice, members, a, b, maps)?;
     }
     Ok(())
 }

@@ -1,11 +1,12 @@
 //! The maps out of the fields that go into the target, into fields that don't.
-ghost use Rattle.std.specs.Prelude.{◌≡◌, ◌↔◌, ℕ, ◌<◌, [], MatchOption, OnOk, IsTrue, length};
+ghost use Rattle.std.specs.Prelude.{◌≡◌, ◌↔◌, ℕ, ◌<◌, MatchOption, OnOk, IsTrue, length};
+ghost use Rattle.std.specs.Bool.{OnFalse};
 ghost use Rattle.alg_model.specs.Lattices.{Stored};
 ghost use Rattle.lat_world.specs.Worlds.{AreMembers};
 ghost use Rattle.lat_fill.specs.PrivateListing.{number_at};
-ghost use Rattle.lat_fill.specs.PrivateWays.{AreWays, IsHad, Keeps, IsExit, IsReached, IsWayFor, AreAtHome, HasPlace};
+ghost use Rattle.lat_fill.specs.PrivateWays.{AreWays, IsHad, Keeps, Provides, IsExit, IsReached, IsWayFor, AreAtHome, HasPlace};
 
-use crate::links::add;
+use crate::links::{add, goes};
 use lat_core::{Lattice, MapRow, NoMemory};
 use lat_world::{Member, World};
 
@@ -38,25 +39,83 @@ fn outlet_through(
     }
 }
 
-// A map from the `a`-th member to field `k`, through the first member that has a stored one, if the
-// lattice has none for the pair.
+// Whether there is such a map.
+fn is_exit(lattice: &Lattice, members: &[Member], a: usize, b: usize, k: u32) -> bool
+    requires first { a < length members.now }
+    requires second { b < length members.now }
+    ensures { IsTrue result ↔ IsExit lattice.now members.now a b k }
+{
+    goes(members, a, b) && lattice.map(members[b].number, k).is_some()
+}
+
+// A map from the `a`-th member to field `k`, through the first member that has a stored one; None
+// exactly where there is none.
 fn outlet(lattice: &Lattice, members: &[Member], a: usize, k: u32) -> Option<MapRow>
     requires members { AreMembers members.now }
     requires home { AreAtHome lattice.now members.now }
     requires place { a < length members.now }
-    ensures { MatchOption result
-        (IsReached lattice.now members.now a k → IsHad lattice.now [] (number_at members.now a) k)
+    ensures { MatchOption result (IsReached lattice.now members.now a k → ⊥)
         (IsWayFor lattice.now members.now (number_at members.now a) k) }
 {
-    if lattice.map(members[a].number, k).is_some() {
-        return None;
-    }
     for b in 0..members.len() {
-        if let Some(map) = outlet_through(lattice, members, a, b, k) {
-            return Some(map);
+        if is_exit(lattice, members, a, b, k) {
+            return outlet_through(lattice, members, a, b, k);
         }
     }
     None
+}
+
+// Appends this map, if there is one.
+#[inline(never)]
+fn push_outlet(
+    lattice: &Lattice,
+    members: &[Member],
+    a: usize,
+    k: u32,
+    maps: &mut Vec<MapRow>,
+) -> Result<(), NoMemory>
+    requires members { AreMembers members.now }
+    requires home { AreAtHome lattice.now members.now }
+    requires place { a < length members.now }
+    requires ways { AreWays lattice.now members.now maps.old.items }
+    ensures { OnOk result (Provides lattice.now members.now (IsReached lattice.now members.now a k)
+        (number_at members.now a) k maps.old.items maps.new.items) }
+{
+    add(maps, outlet(lattice, members, a, k))
+}
+
+// Appends a map from the `a`-th member to field `k`, if there is one and the lattice has none for
+// the pair.
+fn add_outlet(
+    lattice: &Lattice,
+    members: &[Member],
+    a: usize,
+    k: u32,
+    maps: &mut Vec<MapRow>,
+) -> Result<(), NoMemory>
+    requires members { AreMembers members.now }
+    requires home { AreAtHome lattice.now members.now }
+    requires place { a < length members.now }
+    requires ways { AreWays lattice.now members.now maps.old.items }
+    ensures { OnOk result (Provides lattice.now members.now (IsReached lattice.now members.now a k)
+        (number_at members.now a) k maps.old.items maps.new.items) }
+{
+    if lattice.map(members[a].number, k).is_some() {
+        return Ok(());
+    }
+    push_outlet(lattice, members, a, k, maps)
+}
+
+// Whether a member has a stored map into field `k`.
+fn leads_to(lattice: &Lattice, members: &[Member], k: u32) -> bool
+    ensures { OnFalse result ((a : ℕ) → IsReached lattice.now members.now a k → ⊥) }
+{
+    for member in members {
+        if lattice.map(member.number, k).is_some() {
+            return true;
+        }
+    }
+    false
 }
 
 // Appends the maps into field `k`.
@@ -75,8 +134,11 @@ fn add_outlets_to(
         → IsReached lattice.now members.now a k
         → IsHad lattice.now maps.new.items (number_at members.now a) k) }
 {
+    if !leads_to(lattice, members, k) {
+        return Ok(());
+    }
     for a in 0..members.len() {
-        add(maps, outlet(lattice, members, a, k))?;
+        add_outlet(lattice, members, a, k, maps)?;
     }
     Ok(())
 }
