@@ -1,6 +1,5 @@
 //! The maps between the fields that go into the target.
-ghost use Rattle.std.specs.Prelude.{◌≡◌, ℕ, ◌<◌, [], MatchOption, IfOk, OnOk, length};
-ghost use Rattle.alg_model.specs.Lattices.{Stored};
+ghost use Rattle.std.specs.Prelude.{ℕ, ◌<◌, [], MatchOption, IfOk, OnOk, length};
 ghost use Rattle.lat_world.specs.Worlds.{AreMembers};
 ghost use Rattle.lat_fill.specs.PrivateListing.{number_at};
 ghost use Rattle.lat_fill.specs.PrivateWays.{AreWays, IsHad, Keeps, Goes, IsWayFor, IsAdded};

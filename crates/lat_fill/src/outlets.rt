@@ -1,9 +1,9 @@
 //! The maps out of the fields that go into the target, into fields that don't.
-ghost use Rattle.std.specs.Prelude.{◌≡◌, ◌↔◌, ℕ, ◌<◌, [], MatchOption, OnOk, IsTrue, length};
-ghost use Rattle.alg_model.specs.Lattices.{Stored};
+ghost use Rattle.std.specs.Prelude.{◌↔◌, ℕ, ◌<◌, [], MatchOption, OnOk, IsTrue, length};
 ghost use Rattle.lat_world.specs.Worlds.{AreMembers};
 ghost use Rattle.lat_fill.specs.PrivateListing.{number_at};
-ghost use Rattle.lat_fill.specs.PrivateWays.{AreWays, IsHad, Keeps, IsExit, IsReached, IsWayFor, AreAtHome, HasPlace};
+ghost use Rattle.lat_fill.specs.PrivateWays.{AreWays, IsHad, Keeps, IsExit, IsReached};
+ghost use Rattle.lat_fill.specs.PrivateWays.{IsWayFor, AreAtHome, HasPlace};
 
 use crate::links::add;
 use lat_core::{Lattice, MapRow, NoMemory};
