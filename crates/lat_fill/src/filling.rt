@@ -1,12 +1,11 @@
 //! Filling a lattice.
-ghost use Rattle.std.specs.Prelude.{◌≡◌, ℕ, ◌+◌, ◌≤◌, ◌++◌, List, length, Option, IfOk, OnOk};
-ghost use Rattle.alg_model.specs.Lattices.{field_at, IsCompatible};
+ghost use Rattle.std.specs.Prelude.{◌≡◌, ℕ, ◌+◌, ◌≤◌, List, length, Option, IfOk};
+ghost use Rattle.alg_model.specs.Lattices.{field_at};
 ghost use Rattle.alg_model.specs.Candidates.{embedding_by, IsCandidate, AreMissing};
 ghost use Rattle.alg_model.specs.Filling.{IsFilled};
 ghost use Rattle.alg_compatible.specs.Theorems.{AreFields};
-ghost use Rattle.lat_core.specs.SharedRows.{map_count, with_rows, AreBetween};
+ghost use Rattle.lat_core.specs.SharedRows.{map_count};
 ghost use Rattle.lat_world.specs.Worlds.{AreMembers};
-ghost use Rattle.lat_fill.specs.PrivateListing.{AreListed};
 ghost use Rattle.lat_fill.specs.PrivateWays.{AreAtHome, AreAllWays};
 
 use crate::degrees::missing;

@@ -1,9 +1,10 @@
 //! The maps between the fields that go into the target.
-ghost use Rattle.std.specs.Prelude.{◌≡◌, ◌↔◌, ℕ, ◌<◌, MatchOption, IfOk, OnOk, IsTrue, length};
-ghost use Rattle.alg_model.specs.Lattices.{Lattice, Stored};
+ghost use Rattle.std.specs.Prelude.{◌↔◌, ℕ, ◌<◌, MatchOption, IfOk, OnOk, IsTrue, length};
+ghost use Rattle.alg_model.specs.Lattices.{Lattice};
 ghost use Rattle.lat_world.specs.Worlds.{AreMembers};
 ghost use Rattle.lat_fill.specs.PrivateListing.{number_at};
-ghost use Rattle.lat_fill.specs.PrivateWays.{AreWays, IsHad, Keeps, Provides, Goes, IsWayFor, IsAdded};
+ghost use Rattle.lat_fill.specs.PrivateWays.{AreWays, IsHad, Keeps, Provides, Goes};
+ghost use Rattle.lat_fill.specs.PrivateWays.{IsWayFor, IsAdded};
 
 use lat_core::{Lattice, MapRow, NoMemory};
 use lat_world::{Member, World};

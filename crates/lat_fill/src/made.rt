@@ -1,9 +1,8 @@
 //! The fields that are added, and their maps into the target.
 ghost use Rattle.std.specs.Prelude.{◌≡◌, ℕ, ◌+◌, ◌<◌, ◌≤◌, ◌++◌, List, All, IfOk, OnOk, length};
 ghost use Prim.Native.Nat.{◌∣◌};
-ghost use Rattle.alg_model.specs.Maps.{Field, degree_of, constants};
+ghost use Rattle.alg_model.specs.Maps.{Field, degree_of};
 ghost use Rattle.alg_model.specs.Lattices.{field_at};
-ghost use Rattle.alg_model.specs.Roots.{IsLeastRoot};
 ghost use Rattle.alg_model.specs.Filling.{IsMadeRow};
 ghost use Rattle.lat_core.specs.declared.TheConstants.{MAX_FIELDS};
 ghost use Rattle.lat_fill.specs.PrivateListing.{IsSmallDegree, AreListed, AreMade, GoInto};

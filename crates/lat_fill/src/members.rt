@@ -1,5 +1,5 @@
 //! The members below the target of an embedding, with their maps into it.
-ghost use Rattle.std.specs.Prelude.{◌≡◌, ℕ, MatchOption, IfOk, length};
+ghost use Rattle.std.specs.Prelude.{◌≡◌, MatchOption, IfOk, length};
 ghost use Rattle.alg_model.specs.Lattices.{field_at};
 ghost use Rattle.alg_model.specs.Candidates.{IsMember};
 ghost use Rattle.alg_model.specs.Filling.{IsMapInto};

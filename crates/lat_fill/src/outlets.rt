@@ -1,10 +1,10 @@
 //! The maps out of the fields that go into the target, into fields that don't.
-ghost use Rattle.std.specs.Prelude.{◌≡◌, ◌↔◌, ℕ, ◌<◌, MatchOption, OnOk, IsTrue, length};
+ghost use Rattle.std.specs.Prelude.{◌↔◌, ℕ, ◌<◌, MatchOption, OnOk, IsTrue, length};
 ghost use Rattle.std.specs.Bool.{OnFalse};
-ghost use Rattle.alg_model.specs.Lattices.{Stored};
 ghost use Rattle.lat_world.specs.Worlds.{AreMembers};
 ghost use Rattle.lat_fill.specs.PrivateListing.{number_at};
-ghost use Rattle.lat_fill.specs.PrivateWays.{AreWays, IsHad, Keeps, Provides, IsExit, IsReached, IsWayFor, AreAtHome, HasPlace};
+ghost use Rattle.lat_fill.specs.PrivateWays.{AreWays, IsHad, Keeps, Provides, IsExit, IsReached};
+ghost use Rattle.lat_fill.specs.PrivateWays.{IsWayFor, AreAtHome, HasPlace};
 
 use crate::links::{add, goes};
 use lat_core::{Lattice, MapRow, NoMemory};
