@@ -1,20 +1,22 @@
 -- The list of the maps that are added, made in steps.
-use Rattle.std.proofs.Common.{◌≡◌, ℕ, ◌+◌, ◌<◌, List, [], ◌∷◌, ◌++◌, length, slice_index_or, refl, sym, ap, ◌∙◌, subst, inl, inr, arith, length-append, Option, Some, None, is_some, true}
+use Prim.Native.Nat.{◌∣◌}
+use Rattle.std.proofs.Common.{◌≡◌, ◌↔◌, ◌%◌, ℕ, ◌+◌, ◌<◌, ◌≤◌, List, [], ◌∷◌, ◌++◌, length, slice_index_or, refl, sym, ap, ◌∙◌, subst, inl, inr, arith, length-append, Option, Some, None, is_some, true}
 use Rattle.std.specs.Prelude.{MatchOption}
 use Rattle.std.specs.FinMap.{get}
 use Rattle.std.proofs.lemmas.List.{get_or_append_left, get_or_default}
 use Rattle.std.proofs.lemmas.List.Elements.{All-push}
 use Rattle.std.proofs.Math.Seq.{get_or-append_seam}
+use Rattle.std.proofs.Math.Nat.{dvd_iff_mod-eq-zero}
 use borrow.Author.Count.{below_more}
-use Rattle.alg_model.specs.Maps.{comp}
+use Rattle.alg_model.specs.Maps.{comp, degree_of}
 use Rattle.alg_model.specs.Lattices.{Lattice, Stored, field_at}
 use Rattle.ff_embed.specs.SmallEmbeddings.{FieldMap}
 use Rattle.lat_core.specs.declared.rows.MapRow.{MapRow}
 use Rattle.lat_core.specs.SharedRows.{IsBetween}
 use Rattle.lat_world.specs.declared.members.Member.{Member}
-use Rattle.lat_world.specs.Worlds.{no_member, IsForcedBetween}
+use Rattle.lat_world.specs.Worlds.{no_member, map_at, IsForcedBetween}
 use Rattle.lat_fill.specs.PrivateListing.{number_at}
-use Rattle.lat_fill.specs.PrivateWays.{IsWay, AreWays, IsListedPair, IsHad, Keeps, IsReached, AreAtHome, HasPlace, IsWayFor, IsAdded, Provides}
+use Rattle.lat_fill.specs.PrivateWays.{IsWay, AreWays, IsListedPair, IsHad, Keeps, IsReached, AreAtHome, HasPlace, IsWayFor, IsAdded, Provides, Goes}
 use Rattle.lat_fill.specs.PrivateWays as Ways
 
 -- ---- pairs of a list
@@ -86,6 +88,20 @@ pub found_stored : {A : Type 0} {L : Lattice} {i k : ℕ} (found : Option A) (im
 found_stored None images N B h e = cc
 found_stored (Some x) images N B h e = (images x, h.0)
 
+-- no member so far has a map into k, nor the next one
+pub none_leads_more : (L : Lattice) (ms : List Member) (k n i : ℕ) → i ≡ number_at ms n
+    → ((x : ℕ) → x < n → ((m : List (List ℕ)) × Stored L (number_at ms x) k m) → ⊥)
+    → (((m : List (List ℕ)) × Stored L i k m) → ⊥)
+    → (x : ℕ) → x < n + 1 → ((m : List (List ℕ)) × Stored L (number_at ms x) k m) → ⊥
+none_leads_more L ms k n i e h none = below_more (λ x. ((m : List (List ℕ)) × Stored L (number_at ms x) k m) → ⊥) n h
+    (subst (λ j. ((m : List (List ℕ)) × Stored L j k m) → ⊥) e none)
+
+-- so none reaches k
+pub none_reaches : (L : Lattice) (ms : List Member) (k n : ℕ) → length ms ≤ n
+    → ((x : ℕ) → x < n → ((m : List (List ℕ)) × Stored L (number_at ms x) k m) → ⊥)
+    → (a : ℕ) → IsReached L ms a k → ⊥
+none_reaches L ms k n end none a r = none r.through (let w = r.within in omega (arith, w, end)) r.exit.is_stored
+
 -- one that finds none
 pub stored_none : {L : Lattice} {i k : ℕ} {m : List (List ℕ)} → get L.maps (i, k) ≡ None → Stored L i k m → ⊥
 stored_none {L} {i} {k} {m} e s = let f : get L.maps (i, k) ≡ Some m = s.found in cc
@@ -98,6 +114,17 @@ same_member ms a d h = get_or_default ms a d no_member h
 pub number_is : (ms : List Member) (b : ℕ) (d : Member) → b < length ms
     → (slice_index_or ms b d).number ≡ number_at ms b
 number_is ms b d h = ap (λ r. r.number) (same_member ms b d h)
+
+-- the remainder of the degrees tells whether one divides the other
+pub goes_iff : (ms : List Member) (a b x y : ℕ) (d e : Member) → a < length ms → b < length ms
+    → x ≡ degree_of (slice_index_or ms a d).map.source → y ≡ degree_of (slice_index_or ms b e).map.source
+    → (y % x ≡ 0) ↔ Goes ms a b
+goes_iff ms a b x y d e la lb p q =
+    let u : x ≡ degree_of (map_at ms a).source = p ∙ ap (λ r. degree_of r.map.source) (same_member ms a d la) in
+    let v : y ≡ degree_of (map_at ms b).source = q ∙ ap (λ r. degree_of r.map.source) (same_member ms b e lb) in
+    let i : (x ∣ y) ↔ (y % x ≡ 0) = dvd_iff_mod-eq-zero x in
+    (λ h. subst (λ n. n ∣ degree_of (map_at ms b).source) u (subst (λ n. x ∣ n) v (i.1 h)),
+    λ g. i.0 (subst (λ n. x ∣ n) (sym v) (subst (λ n. n ∣ degree_of (map_at ms b).source) (sym u) g)))
 
 module _ {L : Lattice} {ms : List Member} where
   pub link_way : (a b : ℕ) (d e : Member) (m : FieldMap) → a < length ms → b < length ms

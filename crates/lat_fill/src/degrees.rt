@@ -29,7 +29,7 @@ pub fn missing(lattice: &Lattice, from: u32, into: u32) -> DegreeList
 }
 
 // Whether a field has a stored map into one of the two.
-fn is_member(lattice: &Lattice, from: u32, into: u32, number: u32) -> bool
+pub(crate) fn is_member(lattice: &Lattice, from: u32, into: u32, number: u32) -> bool
     ensures { IsTrue result ↔ IsMember lattice.now from into number }
 {
     lattice.map(number, into).is_some() || lattice.map(number, from).is_some()

@@ -1,6 +1,6 @@
 //! The maps between the fields that go into the target.
-ghost use Rattle.std.specs.Prelude.{◌↔◌, ℕ, ◌<◌, MatchOption, IfOk, OnOk, IsTrue, length};
-ghost use Rattle.alg_model.specs.Lattices.{Lattice};
+ghost use Rattle.std.specs.Prelude.{◌↔◌, ℕ, ◌<◌, List, MatchOption, IfOk, OnOk, IsTrue, length};
+ghost use Rattle.alg_model.specs.Lattices.{Lattice, Stored};
 ghost use Rattle.lat_world.specs.Worlds.{AreMembers};
 ghost use Rattle.lat_fill.specs.PrivateListing.{number_at};
 ghost use Rattle.lat_fill.specs.PrivateWays.{AreWays, IsHad, Keeps, Provides, Goes};
@@ -17,6 +17,13 @@ pub(crate) fn add(maps: &mut Vec<MapRow>, map: Option<MapRow>) -> Result<(), NoM
         maps.push(map)?;
     }
     Ok(())
+}
+
+// Whether a map from one field to another is stored.
+pub(crate) fn is_stored(lattice: &Lattice, i: u32, k: u32) -> bool
+    ensures { IsTrue result ↔ ((m : List (List ℕ)) × Stored lattice.now i k m) }
+{
+    lattice.map(i, k).is_some()
 }
 
 // Whether the degree of the `a`-th member divides that of the `b`-th.
@@ -79,7 +86,7 @@ fn add_link(
     ensures { OnOk result (Provides lattice.now members.now (Goes members.now a b)
         (number_at members.now a) (number_at members.now b) maps.old.items maps.new.items) }
 {
-    if !goes(members, a, b) || lattice.map(members[a].number, members[b].number).is_some() {
+    if !goes(members, a, b) || is_stored(lattice, members[a].number, members[b].number) {
         return Ok(());
     }
     push_link(lattice, members, a, b, maps)

@@ -1,11 +1,12 @@
 //! The members below the target of an embedding, with their maps into it.
-ghost use Rattle.std.specs.Prelude.{◌≡◌, MatchOption, IfOk, length};
+ghost use Rattle.std.specs.Prelude.{◌≡◌, ◌+◌, ◌<◌, MatchOption, IfOk, OnOk, length};
 ghost use Rattle.alg_model.specs.Lattices.{field_at};
 ghost use Rattle.alg_model.specs.Candidates.{IsMember};
 ghost use Rattle.alg_model.specs.Filling.{IsMapInto};
 ghost use Rattle.lat_fill.specs.PrivateListing.{AreListed};
 ghost use Rattle.lat_core.specs.SharedRows.{IsBetween};
 
+use crate::degrees::is_member;
 use ff_embed::Embedding;
 use lat_core::{Lattice, NoMemory};
 use lat_world::Member;
@@ -34,6 +35,30 @@ fn member_map(
     }
 }
 
+// Lists field `number`, if it is a member, behind the members below it.
+#[inline(never)]
+fn list_member(
+    lattice: &Lattice,
+    from: u32,
+    into: u32,
+    phi: &Embedding,
+    number: u32,
+    members: &mut Vec<Member>,
+) -> Result<(), NoMemory>
+    requires source { phi.now.source ≡ field_at lattice.now.rows from }
+    requires target { phi.now.target ≡ field_at lattice.now.rows into }
+    requires within { number < length lattice.now.rows }
+    requires listed { AreListed lattice.now from into phi.now.images lattice.now.rows number
+        members.old.items }
+    ensures { OnOk result (AreListed lattice.now from into phi.now.images lattice.now.rows
+        (number + 1) members.new.items) }
+{
+    if let Some(map) = member_map(lattice, from, into, phi, number) {
+        members.push(Member { number, map })?;
+    }
+    Ok(())
+}
+
 // The members, in the order of their numbers.
 pub(crate) fn members(
     lattice: &Lattice,
@@ -48,8 +73,8 @@ pub(crate) fn members(
 {
     let mut members = Vec::new(lattice.allocator());
     for number in 0..lattice.fields() {
-        if let Some(map) = member_map(lattice, from, into, phi, number) {
-            members.push(Member { number, map })?;
+        if is_member(lattice, from, into, number) {
+            list_member(lattice, from, into, phi, number, &mut members)?;
         }
     }
     Ok(members)

@@ -6,7 +6,7 @@ ghost use Rattle.lat_fill.specs.PrivateListing.{number_at};
 ghost use Rattle.lat_fill.specs.PrivateWays.{AreWays, IsHad, Keeps, Provides, IsExit, IsReached};
 ghost use Rattle.lat_fill.specs.PrivateWays.{IsWayFor, AreAtHome, HasPlace};
 
-use crate::links::{add, goes};
+use crate::links::{add, goes, is_stored};
 use lat_core::{Lattice, MapRow, NoMemory};
 use lat_world::{Member, World};
 
@@ -45,7 +45,7 @@ fn is_exit(lattice: &Lattice, members: &[Member], a: usize, b: usize, k: u32) ->
     requires second { b < length members.now }
     ensures { IsTrue result ↔ IsExit lattice.now members.now a b k }
 {
-    goes(members, a, b) && lattice.map(members[b].number, k).is_some()
+    goes(members, a, b) && is_stored(lattice, members[b].number, k)
 }
 
 // A map from the `a`-th member to field `k`, through the first member that has a stored one; None
@@ -100,7 +100,7 @@ fn add_outlet(
     ensures { OnOk result (Provides lattice.now members.now (IsReached lattice.now members.now a k)
         (number_at members.now a) k maps.old.items maps.new.items) }
 {
-    if lattice.map(members[a].number, k).is_some() {
+    if is_stored(lattice, members[a].number, k) {
         return Ok(());
     }
     push_outlet(lattice, members, a, k, maps)
@@ -111,7 +111,7 @@ fn leads_to(lattice: &Lattice, members: &[Member], k: u32) -> bool
     ensures { OnFalse result ((a : ℕ) → IsReached lattice.now members.now a k → ⊥) }
 {
     for member in members {
-        if lattice.map(member.number, k).is_some() {
+        if is_stored(lattice, member.number, k) {
             return true;
         }
     }
