@@ -3,8 +3,6 @@
 #![tactic(auto)]
 
 #[cfg(test)]
-mod choices;
-#[cfg(test)]
 mod comparisons;
 #[cfg(test)]
 mod embeddings;
