@@ -34,27 +34,29 @@ pub(crate) fn narrowed(lattice: &Lattice, from: u32, into: u32) -> PolyX
 {
     let mut polynomial = PolyX::default();
     for d in 0..lattice.fields() {
-        polynomial = narrowed_by(lattice, from, into, d, polynomial);
+        if is_needed(lattice, from, into, d) {
+            polynomial = narrowed_by(lattice, from, into, d, &polynomial);
+        }
     }
     polynomial
 }
 
-// The same, where g is so for the needed fields below d, for those up to d.
-fn narrowed_by(lattice: &Lattice, from: u32, into: u32, d: u32, g: PolyX) -> PolyX
+// The same, where g is so for the needed fields below d, for those up to d, which is needed.
+#[inline(never)]
+fn narrowed_by(lattice: &Lattice, from: u32, into: u32, d: u32, g: &PolyX) -> PolyX
     requires fields { AreFields lattice.now from into }
     requires alike { AreAlike lattice.now from into }
     requires within { d < length lattice.now.rows }
-    requires polynomial { IsPolynomial (field_values (field_at lattice.now.rows into)) g }
-    requires narrows { let L = lattice.now in Narrows L from into (IsNeeded L from into) d None g }
+    requires needed { IsNeeded lattice.now from into d }
+    requires polynomial { IsPolynomial (field_values (field_at lattice.now.rows into)) g.now }
+    requires narrows { let L = lattice.now in
+        Narrows L from into (IsNeeded L from into) d None g.now }
     ensures polynomial { IsPolynomial (field_values (field_at lattice.now.rows into)) result }
     ensures narrows { let L = lattice.now in
         Narrows L from into (IsNeeded L from into) (d + 1) None result }
 {
     let target = lattice.field(into);
-    if !is_needed(lattice, from, into, d) {
-        return g;
-    }
-    PolyX::gcd(&target.field, &g, &restriction(lattice, from, into, d))
+    PolyX::gcd(&target.field, g, &restriction(lattice, from, into, d))
 }
 
 // The polynomial of the values at which the map agrees with the maps of a common subfield.
