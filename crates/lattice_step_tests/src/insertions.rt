@@ -93,7 +93,12 @@ fn declare(
 }
 
 // Embeds one field in another.
-fn embed(rt: &impl Abort, lattice: &mut Lattice, from: &str, into: &str) -> Result<Reply, NoMemory> {
+fn embed(
+    rt: &impl Abort,
+    lattice: &mut Lattice,
+    from: &str,
+    into: &str,
+) -> Result<Reply, NoMemory> {
     step(lattice, &embedding(rt, from, into, None))
 }
 
@@ -122,7 +127,12 @@ fn a_quadratic_field_in_a_quartic_one(rt: HostRuntime) -> Result<(), Fail> {
     let itself = embed(&rt, &mut lattice, "K", "K")?;
     assert!(rt; is_embedded(&itself, &[0, 1], 0, 0));
     let back = embed(&rt, &mut lattice, "L", "K")?;
-    assert!(rt; matches!(&back, Reply::Refused(StepRefusal::DegreeDoesNotDivide(4, 2))));
+    assert!(rt;
+        matches!(
+            &back,
+            Reply::Refused(StepRefusal::DegreeDoesNotDivide(4, 2))
+        )
+    );
     expect_counts(&rt, &lattice, 13, 16);
     Ok(())
 }
@@ -198,16 +208,20 @@ fn a_full_lattice_makes_no_field(rt: HostRuntime) -> Result<(), Fail> {
     let first = embed(&rt, &mut lattice, "S", "D")?;
     assert!(rt; is_embedded(&first, &[0, 0, 0, 0, 0, 1, 0, 0, 0, 0, 0, 0], 0, 1));
     let second = embed(&rt, &mut lattice, "Q", "D")?;
-    assert!(rt; matches!(
-        &second,
-        Reply::Refused(StepRefusal::TooManyFields { have: 200, need: 1 })
-    ));
+    assert!(rt;
+        matches!(
+            &second,
+            Reply::Refused(StepRefusal::TooManyFields { have: 200, need: 1 })
+        )
+    );
     expect_counts(&rt, &lattice, 200, 390);
     let last = declare(&rt, &mut lattice, "E", 2, &[1, 1, 1])?;
-    assert!(rt; matches!(
-        &last,
-        Reply::Refused(StepRefusal::TooManyFields { have: 200, need: 1 })
-    ));
+    assert!(rt;
+        matches!(
+            &last,
+            Reply::Refused(StepRefusal::TooManyFields { have: 200, need: 1 })
+        )
+    );
     Ok(())
 }
 
@@ -217,25 +231,31 @@ fn prescribed_images(rt: HostRuntime) -> Result<(), Fail> {
     let _first = declare(&rt, &mut lattice, "A", 3, &[1, 0, 1])?;
     let _second = declare(&rt, &mut lattice, "B", 3, &[2, 1, 1])?;
     let none = embedding(&rt, "A", "B", pair(11, &[0, 1], 12, &[0, 1]));
-    assert!(rt; matches!(
-        step(&mut lattice, &none)?,
-        Reply::Refused(StepRefusal::NoCompatibleRoot)
-    ));
+    assert!(rt;
+        matches!(
+            step(&mut lattice, &none)?,
+            Reply::Refused(StepRefusal::NoCompatibleRoot)
+        )
+    );
     let exchanged = embedding(&rt, "A", "B", pair(12, &[0, 1], 11, &[0, 1]));
-    assert!(rt; matches!(
-        step(&mut lattice, &exchanged)?,
-        Reply::Refused(StepRefusal::WrongField(12))
-    ));
+    assert!(rt;
+        matches!(
+            step(&mut lattice, &exchanged)?,
+            Reply::Refused(StepRefusal::WrongField(12))
+        )
+    );
     let met = embedding(&rt, "A", "B", pair(11, &[0, 1], 12, &[1, 2]));
     assert!(rt; is_embedded(&step(&mut lattice, &met)?, &[1, 2], 0, 2));
     let plain = embed(&rt, &mut lattice, "A", "B")?;
     assert!(rt; is_embedded(&plain, &[1, 2], 0, 0));
     // The stored map sends it elsewhere.
     let other = embedding(&rt, "A", "B", pair(11, &[0, 1], 12, &[2, 1]));
-    assert!(rt; matches!(
-        step(&mut lattice, &other)?,
-        Reply::Refused(StepRefusal::NoCompatibleRoot)
-    ));
+    assert!(rt;
+        matches!(
+            step(&mut lattice, &other)?,
+            Reply::Refused(StepRefusal::NoCompatibleRoot)
+        )
+    );
     expect_counts(&rt, &lattice, 13, 17);
     Ok(())
 }
@@ -244,20 +264,26 @@ fn prescribed_images(rt: HostRuntime) -> Result<(), Fail> {
 fn fields_that_have_no_embedding(rt: HostRuntime) -> Result<(), Fail> {
     let mut lattice = small_lattice(&rt, rt.alloc())?;
     let source = embed(&rt, &mut lattice, "X", "Y")?;
-    assert!(rt; matches!(
+    assert!(rt;
+        matches!(
         &source,
         Reply::Refused(StepRefusal::UnknownField(name)) if name.bytes() == b"X".as_slice()
-    ));
+    )
+    );
     let target = embed(&rt, &mut lattice, "K", "Y")?;
-    assert!(rt; matches!(
+    assert!(rt;
+        matches!(
         &target,
         Reply::Refused(StepRefusal::UnknownField(name)) if name.bytes() == b"Y".as_slice()
-    ));
+    )
+    );
     let primes = embed(&rt, &mut lattice, "F2", "F3")?;
-    assert!(rt; matches!(
-        &primes,
-        Reply::Refused(StepRefusal::DifferentCharacteristic(2, 3))
-    ));
+    assert!(rt;
+        matches!(
+            &primes,
+            Reply::Refused(StepRefusal::DifferentCharacteristic(2, 3))
+        )
+    );
     assert!(rt; matches!(step(&mut lattice, &Request::Sync)?, Reply::Synced));
     expect_counts(&rt, &lattice, 13, 15);
     Ok(())
@@ -275,11 +301,13 @@ fn declarations_that_are_refused(rt: HostRuntime) -> Result<(), Fail> {
     let leading = declare(&rt, &mut lattice, "N", 3, &[1, 0, 2])?;
     assert!(rt; matches!(&leading, Reply::Refused(StepRefusal::NotMonic)));
     let square = declare(&rt, &mut lattice, "N", 2, &[1, 0, 1, 0, 1])?;
-    assert!(rt; matches!(
+    assert!(rt;
+        matches!(
         &square,
         Reply::Refused(StepRefusal::Reducible { factor })
             if factor.coefficients() == [1, 1, 1].as_slice()
-    ));
+    )
+    );
     expect_counts(&rt, &lattice, 13, 15);
     Ok(())
 }
