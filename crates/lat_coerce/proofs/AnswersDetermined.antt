@@ -12,10 +12,10 @@ use Rattle.lat_core.specs.declared.questions.Answer.{Answer}
 use Rattle.lat_core.specs.declared.questions.Answer.TheVariants.{Image, Is, Numbers, Poly, RelPoly}
 use Rattle.lat_core.specs.Answers.{IsTaggedValue, Fits, known_field, AnswersNamed, AnswersMap, IsLowestCommon, HasCommon, MeetsIn, HasMeet, IsSubfields, HasMinimalOver, Answers}
 use Rattle.lat_core.specs.Answers.AnswersNamed.{named, unknown}
-use Rattle.lat_core.specs.Answers.AnswersMap as MapAnswers
+use Rattle.lat_core.specs.Answers.AnswersMap.{image, not_embedded as no_image}
 use Rattle.lat_core.specs.Answers.HasCommon.{first, second, other, none}
 use Rattle.lat_core.specs.Answers.HasMeet.{first_not_embedded, second_not_embedded, meet}
-use Rattle.lat_core.specs.Answers.HasMinimalOver as OverAnswers
+use Rattle.lat_core.specs.Answers.HasMinimalOver.{minimal, not_embedded as no_subfield}
 use Rattle.lat_core.specs.Answers.Answers.{field_named, field_number, map, lift, common, meets, subfields, minimal_polynomial, minimal_over, count}
 use Rattle.lat_core.proofs.StepDetermined.{named_one}
 use Rattle.lat_coerce.specs.Theorems.{QuestionHasOneAnswer}
@@ -33,39 +33,39 @@ module _ {L : Lattice} (C : IsCompatible L) where
   names_one (unknown free) (unknown also) = refl
 
   image_one : {i j : ℕ} {x y : Answer} → AnswersMap L i j x → AnswersMap L i j y → x ≡ y
-  image_one {i} {j} (MapAnswers.image s) (MapAnswers.image r) =
+  image_one {i} {j} (image s) (image r) =
       ap (λ m. Image (apply (field_at L.rows j) m (generator (field_at L.rows i)))) (stored_one s r)
-  image_one (MapAnswers.image {m = m} s) (MapAnswers.not_embedded no) = absurd (no (m, s))
-  image_one (MapAnswers.not_embedded no) (MapAnswers.image {m = m} s) = absurd (no (m, s))
-  image_one (MapAnswers.not_embedded no) (MapAnswers.not_embedded nor) = refl
+  image_one (image {m = m} s) (no_image absent) = absurd (absent (m, s))
+  image_one (no_image absent) (image {m = m} s) = absurd (absent (m, s))
+  image_one (no_image absent) (no_image nor) = refl
 
   common_one : {a b : ℕ} {x y : Answer} → HasCommon L a b x → HasCommon L a b y → x ≡ y
   common_one (first h) (first k) = refl
-  common_one (first h) (second no k) = absurd (no h)
-  common_one (first h) (other no nor k l) = absurd (no h)
-  common_one {a} (first h) (none no) = absurd (no a h.common)
-  common_one (second no h) (first k) = absurd (no k)
-  common_one (second no h) (second nor k) = refl
-  common_one (second no h) (other n nor k l) = absurd (nor h)
-  common_one {b = b} (second n h) (none no) = absurd (no b h.common)
-  common_one (other no nor h l) (first k) = absurd (no k)
-  common_one (other no nor h l) (second n k) = absurd (nor k)
-  common_one (other {g = g} no nor h l) (other {g = f} n m k j) = ap Is (least_one (l f k) (j g h))
-  common_one (other {g = g} no nor h l) (none n) = absurd (n g h.common)
-  common_one {a} (none no) (first k) = absurd (no a k.common)
-  common_one {b = b} (none no) (second n k) = absurd (no b k.common)
-  common_one (none no) (other {g = g} n nor k l) = absurd (no g k.common)
-  common_one (none no) (none nor) = refl
+  common_one (first h) (second absent k) = absurd (absent h)
+  common_one (first h) (other absent nor k l) = absurd (absent h)
+  common_one {a} (first h) (none absent) = absurd (absent a h.common)
+  common_one (second absent h) (first k) = absurd (absent k)
+  common_one (second absent h) (second nor k) = refl
+  common_one (second absent h) (other n nor k l) = absurd (nor h)
+  common_one {b = b} (second n h) (none absent) = absurd (absent b h.common)
+  common_one (other absent nor h l) (first k) = absurd (absent k)
+  common_one (other absent nor h l) (second n k) = absurd (nor k)
+  common_one (other {g = g} absent nor h l) (other {g = f} n m k j) = ap Is (least_one (l f k) (j g h))
+  common_one (other {g = g} absent nor h l) (none n) = absurd (n g h.common)
+  common_one {a} (none absent) (first k) = absurd (absent a k.common)
+  common_one {b = b} (none absent) (second n k) = absurd (absent b k.common)
+  common_one (none absent) (other {g = g} n nor k l) = absurd (absent g k.common)
+  common_one (none absent) (none nor) = refl
 
   meet_one : {i j k : ℕ} {x y : Answer} → HasMeet L i j k x → HasMeet L i j k y → x ≡ y
-  meet_one (first_not_embedded no) (first_not_embedded nor) = refl
-  meet_one (first_not_embedded no) (second_not_embedded s nor) = absurd (no s)
-  meet_one (first_not_embedded no) (meet {a = a} A B h l) = absurd (no (a, A))
-  meet_one (second_not_embedded s no) (first_not_embedded nor) = absurd (nor s)
-  meet_one (second_not_embedded s no) (second_not_embedded r nor) = refl
-  meet_one (second_not_embedded s no) (meet {b = b} A B h l) = absurd (no (b, B))
-  meet_one (meet {a = a} A B h l) (first_not_embedded no) = absurd (no (a, A))
-  meet_one (meet {b = b} A B h l) (second_not_embedded s no) = absurd (no (b, B))
+  meet_one (first_not_embedded absent) (first_not_embedded nor) = refl
+  meet_one (first_not_embedded absent) (second_not_embedded s nor) = absurd (absent s)
+  meet_one (first_not_embedded absent) (meet {a = a} A B h l) = absurd (absent (a, A))
+  meet_one (second_not_embedded s absent) (first_not_embedded nor) = absurd (nor s)
+  meet_one (second_not_embedded s absent) (second_not_embedded r nor) = refl
+  meet_one (second_not_embedded s absent) (meet {b = b} A B h l) = absurd (absent (b, B))
+  meet_one (meet {a = a} A B h l) (first_not_embedded absent) = absurd (absent (a, A))
+  meet_one (meet {b = b} A B h l) (second_not_embedded s absent) = absurd (absent (b, B))
   meet_one {i} {j} {k} (meet {l = m} {a = a} {b = b} A B h l) (meet {l = n} {a = c} {b = d} E F g f) =
       let there = subst (λ z. MeetsIn L i j k n a z) (stored_one F B) (subst (λ z. MeetsIn L i j k n z d) (stored_one E A) g) in
       let here = subst (λ z. MeetsIn L i j k m c z) (stored_one B F) (subst (λ z. MeetsIn L i j k m z b) (stored_one A E) h) in
@@ -77,14 +77,14 @@ module _ {L : Lattice} (C : IsCompatible L) where
 
   over_one : {t : Tagged} {over : ℕ} {x y : Answer} → IsTaggedValue L t → HasMinimalOver L t over x
       → HasMinimalOver L t over y → x ≡ y
-  over_one {t} {over} T (OverAnswers.minimal {m = m} {g = f} s h) (OverAnswers.minimal {m = n} {g = g} r k) =
+  over_one {t} {over} T (minimal {m = m} {g = f} s h) (minimal {m = n} {g = g} r k) =
       let same = subst (λ z. IsMinimalOver (field_at L.rows over) (field_at L.rows t.field) z t.value g) (stored_one r s) k in
       ap RelPoly ((subfield_minimals (field_at L.rows over) (field_at L.rows t.field)
       (field_finite L C.rows over (C.compatible.within s).0) (field_finite L C.rows t.field T.tag) m
       (C.compatible.embedding s) t.value T.value).unique f g h same)
-  over_one T (OverAnswers.minimal {m = m} s h) (OverAnswers.not_embedded no) = absurd (no (m, s))
-  over_one T (OverAnswers.not_embedded no) (OverAnswers.minimal {m = m} s h) = absurd (no (m, s))
-  over_one T (OverAnswers.not_embedded no) (OverAnswers.not_embedded nor) = refl
+  over_one T (minimal {m = m} s h) (no_subfield absent) = absurd (absent (m, s))
+  over_one T (no_subfield absent) (minimal {m = m} s h) = absurd (absent (m, s))
+  over_one T (no_subfield absent) (no_subfield nor) = refl
 
   answer_one : (question : Question) {x y : Answer} → Fits L question → Answers L question x
       → Answers L question y → x ≡ y
@@ -103,4 +103,4 @@ module _ {L : Lattice} (C : IsCompatible L) where
 
 -- **a question that fits has one answer**
 pub question_has_one_answer : QuestionHasOneAnswer
-question_has_one_answer L question answer other C fits h k = answer_one C question fits h k
+question_has_one_answer L question answer also C fits h k = answer_one C question fits h k

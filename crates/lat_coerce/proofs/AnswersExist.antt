@@ -13,9 +13,9 @@ use Rattle.lat_core.specs.declared.questions.Answer.TheVariants.{Unknown, Image,
 use Rattle.lat_core.specs.SharedRows.{map_count}
 use Rattle.lat_core.specs.Answers.{IsTaggedValue, Fits, known_field, AnswersNamed, AnswersMap, HasMeet, HasMinimalOver, Answers}
 use Rattle.lat_core.specs.Answers.AnswersNamed.{named, unknown}
-use Rattle.lat_core.specs.Answers.AnswersMap as MapAnswers
+use Rattle.lat_core.specs.Answers.AnswersMap.{image, not_embedded as no_image}
 use Rattle.lat_core.specs.Answers.HasMeet.{first_not_embedded, second_not_embedded}
-use Rattle.lat_core.specs.Answers.HasMinimalOver as OverAnswers
+use Rattle.lat_core.specs.Answers.HasMinimalOver.{minimal, not_embedded as no_subfield}
 use Rattle.lat_core.specs.Answers.Answers.{field_named, field_number, map, lift, common, meets, subfields, minimal_polynomial, minimal_over, count}
 use Rattle.lat_core.proofs.Decisions.{named_or_free}
 use Rattle.lat_coerce.specs.Theorems.{QuestionHasAnswer}
@@ -34,8 +34,8 @@ module _ {L : Lattice} (C : IsCompatible L) where
 
   image_exists : (i j : ℕ) → (answer : Answer) × AnswersMap L i j answer
   image_exists i j = ⊎_elim
-      (λ (m, s). (Image (apply (field_at L.rows j) m (generator (field_at L.rows i))), MapAnswers.image s))
-      (λ no. (Refused (NotEmbedded i j), MapAnswers.not_embedded no))
+      (λ (m, s). (Image (apply (field_at L.rows j) m (generator (field_at L.rows i))), image s))
+      (λ absent. (Refused (NotEmbedded i j), no_image absent))
       (stored_or_not L i j)
 
   over_exists : (t : Tagged) (over : ℕ) → IsTaggedValue L t
@@ -45,8 +45,8 @@ module _ {L : Lattice} (C : IsCompatible L) where
       let (g, h) = (subfield_minimals (field_at L.rows over) (field_at L.rows t.field)
       (field_finite L C.rows over (C.compatible.within s).0) (field_finite L C.rows t.field T.tag) m
       (C.compatible.embedding s) t.value T.value).exists in
-      (RelPoly g, OverAnswers.minimal s h))
-      (λ no. (Refused (NotEmbedded over t.field), OverAnswers.not_embedded no))
+      (RelPoly g, minimal s h))
+      (λ absent. (Refused (NotEmbedded over t.field), no_subfield absent))
       (stored_or_not L over t.field)
 
   answer_of : (question : Question) → Fits L question → (answer : Answer) × Answers L question answer
@@ -54,7 +54,7 @@ module _ {L : Lattice} (C : IsCompatible L) where
   answer_of (FieldAt n) h = (known_field L n, field_number)
   answer_of (Map i j) h = let (x, a) = image_exists i j in (x, map a)
   answer_of (Lift t j) h = let (x, a) = lift_exists C h.0 in (x, lift a)
-  answer_of (Common a b) h = let (x, c) = common_exists C {a} {b} in (x, common c)
+  answer_of (Common a b) h = let (x, c) = common_exists C {a = a} {b = b} in (x, common c)
   answer_of (Meet i j k) h = let (x, a) = meet_exists C i j k in (x, meets a)
   answer_of (Subfields k) h = let (numbers, a) = subfields_exist C k in (Numbers numbers, subfields a)
   answer_of (MinPoly t) h =

@@ -33,12 +33,14 @@ module _ {L : Lattice} (C : IsCompatible L) {i j k : ℕ} {a b : List (List ℕ)
     -- there is a common subfield of that degree
     pub common_subfield_exists : (l : ℕ) × IsCommonSubfield L i j d l
     common_subfield_exists =
-        let (l, u, v, U, V, meets) = C.compatible.meet A B in
-        (l, record {
-          first = (u, U);
-          second = (v, V);
-          of_degree = same_from_IsGcd _ _ _ _ ((meet_by_degree U V).0 meets) g;
-        })
+        let (l, u, v, U, V, meets) = C.compatible.meet A B in (
+          l,
+          record {
+            first = (u, U);
+            second = (v, V);
+            of_degree = same_from_IsGcd _ _ _ _ ((meet_by_degree U V).0 meets) g;
+          },
+        )
 
     meets_in : {l : ℕ} → IsCommonSubfield L i j d l → MeetsIn L i j k l a b
     meets_in {l} c =
@@ -68,7 +70,7 @@ common_subfield_or_not : (L : Lattice) (i j d l : ℕ)
     → IsCommonSubfield L i j d l ⊎ ¬ IsCommonSubfield L i j d l
 common_subfield_or_not L i j d l = ⊎_elim
     (λ (s, t, e). inl (record { first = s; second = t; of_degree = e }))
-    (λ no. inr (λ h. no (h.first, h.second, h.of_degree)))
+    (λ absent. inr (λ h. absent (h.first, h.second, h.of_degree)))
     (all_or_not (stored_or_not L l i) (stored_or_not L l j) (cases_eq (degree_of (field_at L.rows l)) d))
   where
     all_or_not : {P Q R : Type 0} → P ⊎ ¬ P → Q ⊎ ¬ Q → R ⊎ ¬ R → (P × Q × R) ⊎ ¬ (P × Q × R)
@@ -98,9 +100,9 @@ pub meet_exists : {L : Lattice} → IsCompatible L → (i j k : ℕ)
 meet_exists {L} C i j k = ⊎_elim
     (λ (a, A). ⊎_elim
     (λ (b, B). found A B)
-    (λ no. (Refused (NotEmbedded j k), second_not_embedded (a, A) no))
+    (λ absent. (Refused (NotEmbedded j k), second_not_embedded (a, A) absent))
     (stored_or_not L j k))
-    (λ no. (Refused (NotEmbedded i k), first_not_embedded no))
+    (λ absent. (Refused (NotEmbedded i k), first_not_embedded absent))
     (stored_or_not L i k)
   where
     found : {a b : List (List ℕ)} → Stored L i k a → Stored L j k b
@@ -110,3 +112,16 @@ meet_exists {L} C i j k = ⊎_elim
         let g = (meet_by_degree C A B U V).0 meets in
         let (m, first) = first_exists C (record { first = (u, U); second = (v, V); of_degree = refl }) in
         (Is m, first_is_meet C A B g first)
+
+-- ---- what the calls tell of a meet
+module _ {L : Lattice} (C : IsCompatible L) {i j k : ℕ} (A : IsStoredPair L i k)
+    (B : IsStoredPair L j k) {m n d : ℕ} (first : m ≡ degree_of (field_at L.rows i))
+    (second : n ≡ degree_of (field_at L.rows j)) (g : IsGcd m n d) where
+  gcd_of_degrees : IsGcd (degree_of (field_at L.rows i)) (degree_of (field_at L.rows j)) d
+  gcd_of_degrees = subst (λ x. IsGcd x (degree_of (field_at L.rows j)) d) first (subst (λ x. IsGcd m x d) second g)
+
+  pub subfield_given : (l : ℕ) × IsCommonSubfield L i j d l
+  subfield_given = common_subfield_exists C A.1 B.1 gcd_of_degrees
+
+  pub meet_given : {l : ℕ} → IsFirstOfDegree L i j d l → HasMeet L i j k (Is l)
+  meet_given f = first_is_meet C A.1 B.1 gcd_of_degrees f

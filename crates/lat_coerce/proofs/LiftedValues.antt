@@ -1,7 +1,9 @@
 -- Lifts: what they are in terms of an embedding, that they have one answer, that they lead back, and
 -- that their answers stay.
-use Rattle.std.proofs.Common.{◌≡◌, ◌≢◌, ◌⊎◌, ℕ, ◌<◌, ◌≤◌, List, length, refl, sym, ap, ◌∙◌, inl, inr, ⊎_elim, subst, arith}
+use Rattle.std.proofs.Common.{◌≡◌, ◌≢◌, ◌↔◌, ◌⊎◌, ℕ, ◌^◌, ◌<◌, ◌≤◌, List, length, refl, sym, ap, ◌∙◌, inl, inr, ⊎_elim, subst, arith, None}
+use Rattle.std.specs.FinMap.{get}
 use Rattle.std.proofs.lemmas.Bool.{cases_eq}
+use Rattle.alg_model.specs.Coefficients.{power}
 use Rattle.alg_model.specs.Maps.{Field, IsFiniteField, field_values, degree_of, apply, comp, identity_map, IsEmbedding}
 use Rattle.alg_model.specs.Lattices.{Lattice, field_at, Stored, Grows, IsCompatible}
 use Rattle.alg_rings.proofs.Decisions.{lists_equal_or_not}
@@ -18,36 +20,53 @@ use Rattle.lat_core.specs.SharedRows.{IsBetween}
 use Rattle.lat_core.specs.Answers.{IsTaggedValue, IsStoredPair, IsSentTo, LiftsTo}
 use Rattle.lat_core.specs.Answers.LiftsTo.{up, down, not_in_image, not_embedded}
 use Rattle.lat_coerce.specs.Theorems.{LiftGivesValue, LiftLeadsBack, AnsweredLiftStays}
-use Rattle.lat_coerce.proofs.StoredPairs.{stored_or_not, source_finite, target_finite, target_within, degree_rises}
+use Rattle.lat_coerce.proofs.StoredPairs.{missing_pair, stored_or_not, source_finite, target_finite, target_within, degree_rises}
 
 abbrev pub tagged : ℕ → List ℕ → Tagged
 tagged j w = record { field = j; value = w }
 
 -- ---- by an embedding between the fields of two numbers
-module _ {L : Lattice} {i j : ℕ} {e : FieldMap} (between : IsBetween L.rows i j e) where
-  -- a value of the source is one of field i
-  pub value_of_source : {w : List ℕ} → (field_values (field_at L.rows i)).Valid w
+module _ (L : Lattice) (i j : ℕ) (e : FieldMap) (between : IsBetween L.rows i j e) where
+  -- a value of the one field is one of the source
+  pub value_of_source : (w : List ℕ) → (field_values (field_at L.rows i)).Valid w
       → (field_values e.source).Valid w
-  value_of_source {w} = subst (λ K. (field_values K).Valid w) (sym between.source)
+  value_of_source w = subst (λ K. (field_values K).Valid w) (sym between.source)
 
-  pub value_of_target : {w : List ℕ} → (field_values (field_at L.rows j)).Valid w
-      → (field_values e.target).Valid w
-  value_of_target {w} = subst (λ K. (field_values K).Valid w) (sym between.target)
-
-  -- what it gives is what the map gives
-  pub applied : {w v : List ℕ} → v ≡ apply e.target e.images w → v ≡ apply (field_at L.rows j) e.images w
-  applied {w} h = h ∙ ap (λ K. apply K e.images w) between.target
-
-  -- what it sends to v
-  pub sent : {w v : List ℕ} → (field_values e.source).Valid w → apply e.target e.images w ≡ v
+  -- what it sends to v, and that it sends nothing there
+  pub sent : (w v : List ℕ) → (field_values e.source).Valid w → apply e.target e.images w ≡ v
       → IsSentTo L i j e.images w v
-  sent {w} valid h = record {
+  sent w v valid h = record {
     value = subst (λ K. (field_values K).Valid w) between.source valid;
     image = ap (λ K. apply K e.images w) (sym between.target) ∙ h;
   }
 
-  pub none_sent : {v : List ℕ} → ¬ IsInImage e v → (w : List ℕ) → ¬ IsSentTo L i j e.images w v
-  none_sent none w s = none (w, value_of_source s.value, ap (λ K. apply K e.images w) between.target ∙ s.image)
+  pub none_sent : (v : List ℕ) → ¬ IsInImage e v → (w : List ℕ) → ¬ IsSentTo L i j e.images w v
+  none_sent v outside w s = outside (w, value_of_source w s.value, ap (λ K. apply K e.images w) between.target ∙ s.image)
+
+-- ---- what the calls tell of a lift
+module _ (L : Lattice) (t : Tagged) (j : ℕ) where
+  pub lifted_up : (e : FieldMap) (v : List ℕ)
+      → Stored L t.field j e.images × IsBetween L.rows t.field j e
+      → v ≡ apply e.target e.images t.value → LiftsTo L t j (Lifted (tagged j v))
+  lifted_up e v (s, between) h = subst (λ w. LiftsTo L t j (Lifted (tagged j w)))
+      (sym (h ∙ ap (λ K. apply K e.images t.value) between.target)) (up s)
+
+  pub lifted_down : (e : FieldMap) (w : List ℕ) → get L.maps (t.field, j) ≡ None
+      → Stored L j t.field e.images × IsBetween L.rows j t.field e
+      → (field_values e.source).Valid w → apply e.target e.images w ≡ t.value
+      → LiftsTo L t j (Lifted (tagged j w))
+  lifted_down e w absent (s, between) valid h =
+      down (missing_pair L t.field j absent) s (sent L j t.field e between w t.value valid h)
+
+  pub lifts_outside : (e : FieldMap) → get L.maps (t.field, j) ≡ None
+      → Stored L j t.field e.images × IsBetween L.rows j t.field e
+      → ¬ IsInImage e t.value → LiftsTo L t j (Refused NotInImage)
+  lifts_outside e absent (s, between) outside =
+      not_in_image (missing_pair L t.field j absent) s (none_sent L j t.field e between t.value outside)
+
+  pub lifts_nowhere : get L.maps (t.field, j) ≡ None → get L.maps (j, t.field) ≡ None
+      → LiftsTo L t j (Refused (NotEmbedded t.field j))
+  lifts_nowhere absent none = not_embedded (missing_pair L t.field j absent) (missing_pair L j t.field none)
 
 module _ {L : Lattice} (C : IsCompatible L) where
   -- ---- what is sent to a value
@@ -66,6 +85,8 @@ module _ {L : Lattice} (C : IsCompatible L) where
       (λ apart. inr (λ w h. apart (fixed.1 (w, h.value, h.image))))
       (lists_equal_or_not cases_eq _ _)
     where
+      fixed : (power (field_values (field_at L.rows i)).ops v ((field_at L.rows i).characteristic ^ degree_of (field_at L.rows j)) ≡ v)
+          ↔ ((w : List ℕ) × (field_values (field_at L.rows j)).Valid w × (apply (field_at L.rows i) m w ≡ v))
       fixed = subfield_is_fixed (field_at L.rows j) (field_at L.rows i) (source_finite C s) (target_finite C s)
           m (C.compatible.embedding s) v valid
 
@@ -73,36 +94,36 @@ module _ {L : Lattice} (C : IsCompatible L) where
   pub lift_exists : {t : Tagged} {j : ℕ} → IsTaggedValue L t → (answer : Answer) × LiftsTo L t j answer
   lift_exists {t} {j} T = ⊎_elim
       (λ (m, s). (Lifted (tagged j (apply (field_at L.rows j) m t.value)), up s))
-      (λ no. ⊎_elim
+      (λ absent. ⊎_elim
       (λ (m, s). ⊎_elim
-      (λ (w, h). (Lifted (tagged j w), down no s h))
-      (λ none. (Refused NotInImage, not_in_image no s none))
+      (λ (w, h). (Lifted (tagged j w), down absent s h))
+      (λ none. (Refused NotInImage, not_in_image absent s none))
       (sent_or_not s T.value))
-      (λ nor. (Refused (NotEmbedded t.field j), not_embedded no nor))
+      (λ nor. (Refused (NotEmbedded t.field j), not_embedded absent nor))
       (stored_or_not L j t.field))
       (stored_or_not L t.field j)
 
   pub lift_one : {t : Tagged} {j : ℕ} {x y : Answer} → LiftsTo L t j x → LiftsTo L t j y → x ≡ y
   lift_one {t} {j} (up {m = m} s) (up {m = n} r) =
       ap (λ k. Lifted (tagged j (apply (field_at L.rows j) k t.value))) (stored_one s r)
-  lift_one (up {m = m} s) (down no r h) = absurd (no (m, s))
-  lift_one (up {m = m} s) (not_in_image no r h) = absurd (no (m, s))
-  lift_one (up {m = m} s) (not_embedded no nor) = absurd (no (m, s))
-  lift_one (down no s h) (up {m = m} r) = absurd (no (m, r))
-  lift_one {t} {j} (down {m = m} {w = w} no s h) (down {m = n} {w = u} nor r k) =
+  lift_one (up {m = m} s) (down absent r h) = absurd (absent (m, s))
+  lift_one (up {m = m} s) (not_in_image absent r h) = absurd (absent (m, s))
+  lift_one (up {m = m} s) (not_embedded absent nor) = absurd (absent (m, s))
+  lift_one (down absent s h) (up {m = m} r) = absurd (absent (m, r))
+  lift_one {t} {j} (down {m = m} {w = w} absent s h) (down {m = n} {w = u} nor r k) =
       ap (λ v. Lifted (tagged j v)) (sent_one r (subst (λ x. IsSentTo L j t.field x w t.value) (stored_one s r) h) k)
-  lift_one {t} {j} (down {w = w} no s h) (not_in_image nor r none) =
+  lift_one {t} {j} (down {w = w} absent s h) (not_in_image nor r none) =
       absurd (none w (subst (λ x. IsSentTo L j t.field x w t.value) (stored_one s r) h))
-  lift_one (down {m = m} no s h) (not_embedded nor none) = absurd (none (m, s))
-  lift_one (not_in_image no s h) (up {m = m} r) = absurd (no (m, r))
-  lift_one {t} {j} (not_in_image no s none) (down {w = w} nor r k) =
+  lift_one (down {m = m} absent s h) (not_embedded nor none) = absurd (none (m, s))
+  lift_one (not_in_image absent s h) (up {m = m} r) = absurd (absent (m, r))
+  lift_one {t} {j} (not_in_image absent s none) (down {w = w} nor r k) =
       absurd (none w (subst (λ x. IsSentTo L j t.field x w t.value) (stored_one r s) k))
-  lift_one (not_in_image no s h) (not_in_image nor r k) = refl
-  lift_one (not_in_image {m = m} no s h) (not_embedded nor none) = absurd (none (m, s))
-  lift_one (not_embedded no nor) (up {m = m} r) = absurd (no (m, r))
-  lift_one (not_embedded no nor) (down {m = m} none r k) = absurd (nor (m, r))
-  lift_one (not_embedded no nor) (not_in_image {m = m} none r k) = absurd (nor (m, r))
-  lift_one (not_embedded no nor) (not_embedded none nothing) = refl
+  lift_one (not_in_image absent s h) (not_in_image nor r k) = refl
+  lift_one (not_in_image {m = m} absent s h) (not_embedded nor none) = absurd (none (m, s))
+  lift_one (not_embedded absent nor) (up {m = m} r) = absurd (absent (m, r))
+  lift_one (not_embedded absent nor) (down {m = m} none r k) = absurd (nor (m, r))
+  lift_one (not_embedded absent nor) (not_in_image {m = m} none r k) = absurd (nor (m, r))
+  lift_one (not_embedded absent nor) (not_embedded none nothing) = refl
 
   -- ---- there and back
   gives_value : {t s : Tagged} {j : ℕ} → IsTaggedValue L t → LiftsTo L t j (Lifted s)
@@ -115,7 +136,7 @@ module _ {L : Lattice} (C : IsCompatible L) where
           (C.compatible.embedding r) t.value T.value;
     },
   )
-  gives_value T (down no r h) = (refl, record { tag = (C.compatible.within r).0; value = h.value })
+  gives_value T (down absent r h) = (refl, record { tag = (C.compatible.within r).0; value = h.value })
 
   -- along a map and along the map back
   around : {i j : ℕ} {m n : List (List ℕ)} {v : List ℕ} → Stored L i j m → Stored L j i n
@@ -133,9 +154,9 @@ module _ {L : Lattice} (C : IsCompatible L) where
   goes_back {t} {j = j} T (up {m = m} r) = ⊎_elim
       (λ (n, b). subst (λ v. LiftsTo L (tagged j (apply (field_at L.rows j) m t.value)) t.field (Lifted (tagged t.field v)))
       (around r b T.value) (up b))
-      (λ no. down no r (record { value = T.value; image = refl }))
+      (λ absent. down absent r (record { value = T.value; image = refl }))
       (stored_or_not L j t.field)
-  goes_back {t} {j = j} T (down {w = w} no r h) =
+  goes_back {t} {j = j} T (down {w = w} absent r h) =
       subst (λ v. LiftsTo L (tagged j w) t.field (Lifted (tagged t.field v))) h.image (up r)
 
 -- ---- in a lattice that has grown
@@ -146,8 +167,8 @@ module _ {L M : Lattice} (C : IsCompatible L) (D : IsCompatible M) (G : Grows L 
   -- where one map alone is stored, the map back can't be added, since the degrees differ
   none_added : {i j : ℕ} {m : List (List ℕ)} → ¬ IsStoredPair L i j → Stored L j i m
       → ¬ IsStoredPair M i j
-  none_added {i} {j} {m} no s p =
-      let (n, back, there, again) = C.compatible.inverse s equal in no (n, back)
+  none_added {i} {j} {m} absent s p =
+      let (n, back, there, again) = C.compatible.inverse s equal in absent (n, back)
     where
       equal : degree_of (field_at L.rows j) ≡ degree_of (field_at L.rows i)
       equal = omega (
@@ -162,16 +183,16 @@ module _ {L M : Lattice} (C : IsCompatible L) (D : IsCompatible M) (G : Grows L 
       → x ≢ Refused (NotEmbedded t.field j) → LiftsTo M t j x
   lift_stays {t} {j} (up {m = m} s) apart = subst (λ K. LiftsTo M t j (Lifted (tagged j (apply K m t.value))))
       (field_stays (C.compatible.within s).1) (up (G.maps s))
-  lift_stays {t} {j} (down {m = m} {w = w} no s h) apart = down (none_added no s) (G.maps s) (record {
+  lift_stays {t} {j} (down {m = m} {w = w} absent s h) apart = down (none_added absent s) (G.maps s) (record {
     value = subst (λ K. (field_values K).Valid w) (sym (field_stays (C.compatible.within s).0)) h.value;
     image = ap (λ K. apply K m w) (field_stays (C.compatible.within s).1) ∙ h.image;
   })
-  lift_stays {t} {j} (not_in_image {m = m} no s none) apart = not_in_image (none_added no s) (G.maps s)
+  lift_stays {t} {j} (not_in_image {m = m} absent s none) apart = not_in_image (none_added absent s) (G.maps s)
       (λ w k. none w (record {
         value = subst (λ K. (field_values K).Valid w) (field_stays (C.compatible.within s).0) k.value;
         image = ap (λ K. apply K m w) (sym (field_stays (C.compatible.within s).1)) ∙ k.image;
       }))
-  lift_stays (not_embedded no nor) apart = absurd (apart refl)
+  lift_stays (not_embedded absent nor) apart = absurd (apart refl)
 
 -- ---- the laws
 pub lift_gives_value : LiftGivesValue

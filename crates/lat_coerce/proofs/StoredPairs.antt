@@ -1,6 +1,9 @@
 -- What is known of pairs with a stored map in a compatible lattice.
-use Rattle.std.proofs.Common.{◌≡◌, ◌⊎◌, ℕ, ◌+◌, ◌<◌, ◌≤◌, List, length, inl, inr, ⊎_elim, arith}
+use Rattle.std.proofs.Common.{◌≡◌, ◌↔◌, ◌⊎◌, ℕ, ◌+◌, ◌<◌, ◌≤◌, List, length, sym, ◌∙◌, inl, inr, ⊎_elim, arith, Bool, true, false, Option, Some, None}
+use Rattle.std.specs.Prelude.{IsTrue}
+use Rattle.std.specs.FinMap.{get}
 use Rattle.std.proofs.lemmas.Bool.{cases_eq}
+use Rattle.std.proofs.lemmas.Option.{none-some}
 use Rattle.std.proofs.lemmas.Nat.Gcd.{le_of_dvd}
 use Rattle.alg_model.specs.Maps.{IsFiniteField, degree_of}
 use Rattle.alg_model.specs.Lattices.{Lattice, field_at, Stored, IsCompatible}
@@ -16,6 +19,17 @@ last_or_below {n} {m} {d} e h = ⊎_elim (λ s. inl s) (λ apart. inr (omega ari
 -- it can be told whether a map is stored for a pair
 pub stored_or_not : (L : Lattice) (i j : ℕ) → IsStoredPair L i j ⊎ ¬ IsStoredPair L i j
 stored_or_not L i j = lattice_decided L i j
+
+-- a pair for which nothing is found has none
+pub missing_pair : (L : Lattice) (i j : ℕ) → get L.maps (i, j) ≡ None → ¬ IsStoredPair L i j
+missing_pair L i j e (m, s) = none-some m (sym e ∙ s.found)
+
+-- what a test tells
+pub tells_true : {P : Type 0} (b : Bool) → IsTrue b ↔ P → b ≡ true → P
+tells_true b same e = same.0 e
+
+pub tells_false : {P : Type 0} (b : Bool) → IsTrue b ↔ P → b ≡ false → ¬ P
+tells_false b same e p = let t : b ≡ true = same.1 p in cc
 
 module _ {L : Lattice} (C : IsCompatible L) where
   pub source_within : {i j : ℕ} → IsStoredPair L i j → i < length L.rows

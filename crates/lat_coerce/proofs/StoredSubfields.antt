@@ -13,13 +13,13 @@ module _ {L : Lattice} {k n m : ℕ} (next : m ≡ n + 1) {numbers : List ℕ}
     (A : AreSubfieldsBelow L k n numbers) where
   -- a field that is none changes nothing
   pub subfields_skip : ¬ IsStoredPair L n k → AreSubfieldsBelow L k m numbers
-  subfields_skip no = record {
+  subfields_skip absent = record {
     count = let l = A.count in omega arith;
     rising = A.rising;
     exactly = λ i. (
       λ c. let (l, s) = (A.exactly i).0 c in (omega arith, s),
       λ (l, s). ⊎_elim
-          (λ e. absurd (no (subst (λ z. IsStoredPair L z k) (sym e) s)))
+          (λ e. absurd (absent (subst (λ z. IsStoredPair L z k) (sym e) s)))
           (λ h. (A.exactly i).1 (h, s))
           (last_or_below next l),
     );

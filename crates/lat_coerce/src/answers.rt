@@ -104,6 +104,7 @@ fn minimal_over(lattice: &Lattice, value: &Tagged, over: u32) -> Answer
     requires value { IsTaggedValue lattice.now value.now }
     ensures minimal { HasMinimalOver lattice.now value.now over result }
 {
+    let _edition = lattice.edition();
     let into = value.field;
     match lattice.map(over, into) {
         None => Answer::Refused(CoerceFault::NotEmbedded { i: over, j: into }),

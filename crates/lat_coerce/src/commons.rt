@@ -1,6 +1,6 @@
 //! Common overfields.
-ghost use Rattle.std.specs.Prelude.{◌+◌, MatchResult, length};
-ghost use Rattle.lat_core.specs.Answers.{IsNumber, HasCommon};
+ghost use Rattle.std.specs.Prelude.{◌+◌, ◌↔◌, IsTrue, MatchResult, length};
+ghost use Rattle.lat_core.specs.Answers.{IsNumber, IsCommon, HasCommon};
 ghost use Rattle.lat_coerce.specs.PrivateSearches.{IsBestBelow};
 
 use crate::lookups::{degree, is_stored};
@@ -18,6 +18,7 @@ pub fn common(lattice: &Lattice, a: u32, b: u32) -> Result<u32, CoerceFault>
         (λ field. HasCommon lattice.now a b (Answer.Is field))
         (λ fault. HasCommon lattice.now a b (Answer.Refused fault)) }
 {
+    let _edition = lattice.edition();
     if is_stored(lattice, b, a) {
         return Ok(a);
     }
@@ -47,7 +48,7 @@ fn lower(lattice: &Lattice, a: u32, b: u32, best: Option<u32>, field: u32) -> Op
     requires best { IsBestBelow lattice.now a b field best }
     ensures best { IsBestBelow lattice.now a b (field + 1) result }
 {
-    if !(is_stored(lattice, a, field) && is_stored(lattice, b, field)) {
+    if !is_common(lattice, a, b, field) {
         return best;
     }
     match best {
@@ -60,4 +61,11 @@ fn lower(lattice: &Lattice, a: u32, b: u32, best: Option<u32>, field: u32) -> Op
             }
         }
     }
+}
+
+// Whether both have maps into a field.
+fn is_common(lattice: &Lattice, a: u32, b: u32, field: u32) -> bool
+    ensures common { IsTrue result ↔ IsCommon lattice.now a b field }
+{
+    is_stored(lattice, a, field) && is_stored(lattice, b, field)
 }

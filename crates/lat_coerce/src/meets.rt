@@ -19,13 +19,15 @@ pub fn meet(lattice: &Lattice, i: u32, j: u32, k: u32) -> Result<u32, CoerceFaul
         (λ field. HasMeet lattice.now i j k (Answer.Is field))
         (λ fault. HasMeet lattice.now i j k (Answer.Refused fault)) }
 {
+    let _edition = lattice.edition();
     if !is_stored(lattice, i, k) {
         return Err(CoerceFault::NotEmbedded { i, j: k });
     }
     if !is_stored(lattice, j, k) {
         return Err(CoerceFault::NotEmbedded { i: j, j: k });
     }
-    Ok(first_of_degree(lattice, i, j, gcd(degree(lattice, i), degree(lattice, j))))
+    let d = gcd(degree(lattice, i), degree(lattice, j));
+    Ok(first_of_degree(lattice, i, j, d))
 }
 
 // The first common subfield of this degree, which there is.
