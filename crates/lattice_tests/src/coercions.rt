@@ -140,7 +140,13 @@ fn minimal_polynomials(rt: HostRuntime) -> Result<(), Fail> {
         Answer::Poly(f) => assert_eq!(rt; f.coefficients(), [2, 1].as_slice()),
         _ => panic!(rt; "each value has one"),
     }
-    match answer(&lattice, &Question::MinPolyOver { value: five.copy(), over: 3 }) {
+    match answer(
+        &lattice,
+        &Question::MinPolyOver {
+            value: five.copy(),
+            over: 3,
+        },
+    ) {
         Answer::RelPoly(f) => {
             assert_eq!(rt; f.coefficients().len(), 2);
             assert_eq!(rt; f.coefficients()[0].digits(), [2].as_slice());
@@ -148,7 +154,13 @@ fn minimal_polynomials(rt: HostRuntime) -> Result<(), Fail> {
         }
         _ => panic!(rt; "each value has one"),
     }
-    match answer(&lattice, &Question::MinPolyOver { value: five, over: 0 }) {
+    match answer(
+        &lattice,
+        &Question::MinPolyOver {
+            value: five,
+            over: 0,
+        },
+    ) {
         Answer::Refused(CoerceFault::NotEmbedded { i, j }) => assert_eq!(rt; (i, j), (0, 3)),
         _ => panic!(rt; "no map between two characteristics"),
     }
