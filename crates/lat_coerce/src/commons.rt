@@ -6,8 +6,8 @@ ghost use Rattle.lat_coerce.specs.PrivateSearches.{IsBestBelow};
 use crate::lookups::{degree, is_stored};
 use lat_core::{Answer, CoerceFault, Lattice};
 
-/// Of the fields into which `a` and `b` both have maps, one of least degree: of those `a`, else `b`,
-/// else the one of least number.
+/// Of the fields into which `a` and `b` both have maps, one of least degree: of those `a`, else
+/// `b`, else the one of least number.
 ///
 /// `NoCommonField` exactly where there is none.
 ///

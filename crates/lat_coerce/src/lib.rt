@@ -1,5 +1,5 @@
-//! Answers to questions about a lattice of finite fields: values in other fields, common overfields,
-//! meets, subfields and minimal polynomials.
+//! Answers to questions about a lattice of finite fields: values in other fields, common
+//! overfields, meets, subfields and minimal polynomials.
 //!
 //! In fixed room and without allocation.
 #![tactic(auto)]
