@@ -3,6 +3,8 @@
 #![tactic(auto)]
 
 #[cfg(test)]
+mod coercions;
+#[cfg(test)]
 mod comparisons;
 #[cfg(test)]
 mod embeddings;
