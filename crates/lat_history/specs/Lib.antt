@@ -1,0 +1,5 @@
+pub mod Books
+pub mod Passes
+pub mod Plays
+pub mod PrivateBooks
+pub mod PrivatePasses
