@@ -72,7 +72,6 @@ impl Book {
     /// For how many entries there is room.
     pub fn room(&self) -> u32
         ensures value { result ≡ self.now.room }
-        ensures whole { IsHistory self.now }
     {
         self.room
     }
@@ -88,7 +87,6 @@ impl Book {
     /// The entries, in their order.
     pub fn entries(&self) -> &[Entry]
         ensures value { result.now ≡ self.now.entries }
-        ensures whole { IsHistory self.now }
     {
         self.entries.as_slice()
     }

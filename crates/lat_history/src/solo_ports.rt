@@ -51,6 +51,7 @@ impl<'a> Port for SoloPort<'a> {
     }
 
     fn front(&self) -> u32 {
+        let _length = self.book.length();
         self.pass.front()
     }
 }
