@@ -139,3 +139,9 @@ entered {h} {L} K M view session place request q reply r entries k room proper s
       (subst (λ (v : Lattice). IsPlayed h (with_entry h (entry_of session request reply)) session request (played_with reply place v))
       (sym copied) (entered_played M session request reply k room proper step place at)),
     )
+
+-- what is told of a history is told of an equal one
+pub played_of : {h old new : History} {session : ℕ} {request : Request} {played : Played}
+    → h ≡ old → IsPlayed h new session request played → IsPlayed old new session request played
+played_of {h} {old} {new} {session} {request} {played} e p =
+    subst (λ (g : History). IsPlayed g new session request played) e p

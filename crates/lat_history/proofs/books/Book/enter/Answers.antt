@@ -1,8 +1,7 @@
 -- A fault leaves the fields as they were; else the entry, its reply and the lattices are those of the step.
 use Rattle.std.proofs.Common.{◌<◌, length, sym, subst, rules}
 use Rattle.lat_history.specs.Books.{History, IsHistory}
-use Rattle.lat_history.specs.Plays.{IsPlayed}
-use Rattle.lat_history.proofs.BookLemmas.{kept_history, kept_entries, entered}
+use Rattle.lat_history.proofs.BookLemmas.{kept_history, kept_entries, entered, played_of}
 use Rattle.lat_history.proofs.books.Book.enter.Goals as goal
 
 pub returns-in_err-next-clause-whole : goal.returns-in_err-next-clause-whole
@@ -25,8 +24,7 @@ invariant_of-self-2 c = (entered c.in_ok-next.next c.step.new.lattice c.in_ok-vi
     c.in_ok-push.ensures.items (search rules) c.in_ok-view.ensures).0
 
 pub returns-clause-played : goal.returns-clause-played
-returns-clause-played c = subst (λ (h : History). IsPlayed h _ c.args.session c.args.request.now _) c.self.view_is
-    (entered c.in_ok-next.next c.step.new.lattice c.in_ok-view.view c.args.session c.len-place.result
+returns-clause-played c = played_of c.self.view_is (entered c.in_ok-next.next c.step.new.lattice c.in_ok-view.view c.args.session c.len-place.result
     c.args.request.now c.copy-3.result c.in_ok-reply.reply c.copy-4.result c.push.new.self.items c.self.invariant
     (subst (λ (h : History). length h.entries < h.room) (sym c.self.view_is) c.requires.room)
     c.requires.proper c.in_ok-next.ensures c.in_ok-reply.ensures.step c.copy-3.ensures c.copy-4.ensures

@@ -10,7 +10,7 @@ invariant_of-self c =
     record { within = p.within; view = p.view }
 
 pub returns-in_err-played-clause-known : goal.returns-in_err-played-clause-known
-returns-in_err-played-clause-known c = pass_knowledge _ _ c.play.ensures.whole
+returns-in_err-played-clause-known c = pass_knowledge c.play.new.self c.args.self.now.pass.now c.play.ensures.whole
 
 pub invariant_of-self-2 : goal.invariant_of-self-2
 invariant_of-self-2 c =
@@ -24,4 +24,4 @@ returns-clause-placed c = entry_placed c.args.self.now.pass.now c.advance.new.se
     (ap (λ (p : Pass). p.number) c.advance.ensures.value) (ap (λ (p : Pass). p.front) c.advance.ensures.value)
 
 pub returns-clause-known : goal.returns-clause-known
-returns-clause-known c = pass_knowledge _ _ c.in_ok-played.ensures.whole
+returns-clause-known c = pass_knowledge c.play.new.self c.advance.new.self c.in_ok-played.ensures.whole
