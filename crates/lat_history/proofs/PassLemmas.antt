@@ -1,12 +1,13 @@
 -- What a session knows through its pass, before and after a change.
-use Rattle.std.proofs.Common.{◌≡◌, ℕ, ◌+◌, ◌<◌, ◌≤◌, List, [], ◌∷◌, ◌++◌, length, take, drop, true, refl, sym, ap, ◌∙◌, subst, arith, length-append, take-append-drop, take_all, append-nil, Result, Ok, Err}
-use Rattle.std.specs.Prelude.{IfOk, OnErr}
+use Rattle.std.proofs.Common.{◌≡◌, ℕ, ◌+◌, ◌<◌, ◌≤◌, List, [], ◌∷◌, ◌++◌, length, take, drop, true, refl, sym, ap, ◌∙◌, subst, arith, length-append, take-append-drop, take_all, append-nil, append_assoc, Result, Ok, Err}
+use Rattle.std.specs.Prelude.{IfOk, IfErr, OnErr}
 use Rattle.std.proofs.lemmas.List.{take-append-le}
 use Rattle.alg_model.specs.Lattices.{Lattice}
 use Rattle.lat_core.specs.declared.requests.Request.{Request}
 use Rattle.lat_core.specs.declared.replies.Reply.{Reply}
 use Rattle.lat_core.specs.declared.replies.Entry.{Entry}
 use Rattle.lat_core.specs.declared.replies.ChangeFault.{ChangeFault}
+use Rattle.lat_core.specs.declared.replies.Placed.{Placed}
 use Rattle.lat_core.specs.Histories.{IsAfter, Knowledge, IsKnowledge, IsSameSession, AreOthers, IsPlaced, IsUnplaced}
 use Rattle.lat_core.proofs.HistoryLaws.{history_one}
 use Rattle.lat_history.specs.Books.{History, IsHistory, with_entry}
@@ -110,3 +111,31 @@ port_leaves port h pass e d =
     subst (λ (p : Pass). IsPassOf h p) (sym d)
     (subst (λ (g : History). IsPassOf g port.pass.now) (sym e)
     (record { within = port.within; view = port.view }))
+
+-- what is told after a change begins with what was told before
+pub told_more : (old new : Knowledge) (request : Request) (result : Result Placed ChangeFault)
+    → IfOk result (λ done. IsPlaced old new request done.reply done.place)
+    → IfErr result (λ _. IsUnplaced old new)
+    → (more : List Entry) × (new.told ≡ old.told ++ more) × (new.edition ≡ old.edition)
+told_more old new request (Ok done) placed unplaced = (
+      placed.others ++ entry_of old.number request done.reply ∷ [],
+      placed.told ∙ append_assoc old.told placed.others (entry_of old.number request done.reply ∷ []),
+      placed.same.edition,
+    )
+told_more old new request (Err fault) placed unplaced =
+    (unplaced.others, unplaced.told, unplaced.same.edition)
+
+-- **the passes of other sessions stay passes of the book**
+pub port_others : (old new : SoloPort) (request : Request) (result : Result Placed ChangeFault)
+    → IfOk result (λ done. IsPlaced (known_of old.book.now old.pass.now)
+    (known_of new.book.now new.pass.now) request done.reply done.place)
+    → IfErr result (λ _. IsUnplaced (known_of old.book.now old.pass.now)
+    (known_of new.book.now new.pass.now))
+    → (h g : History) → old.book.now ≡ h → g ≡ new.book.now
+    → (other : Pass) → IsPassOf h other → IsPassOf g other
+port_others old new request result placed unplaced h g e d other p =
+    let (more, told, edition) = told_more (known_of old.book.now old.pass.now)
+        (known_of new.book.now new.pass.now) request result placed unplaced in
+    subst (λ (k : History). IsPassOf k other) (sym d)
+    (pass_of_longer old.book.now new.book.now other more edition told
+    (subst (λ (k : History). IsPassOf k other) (sym e) p))

@@ -1,4 +1,4 @@
 use Rattle.lat_history.proofs.stubs.answer.Goals as goal
 
 pub returns : goal.returns
-returns c = ?
+returns c = record { answer = ? }
