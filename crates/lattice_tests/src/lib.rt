@@ -3,6 +3,8 @@
 #![tactic(auto)]
 
 #[cfg(test)]
+mod choices;
+#[cfg(test)]
 mod comparisons;
 #[cfg(test)]
 mod embeddings;
@@ -14,6 +16,8 @@ mod field_roots;
 mod field_values;
 #[cfg(test)]
 mod hand_examples;
+#[cfg(test)]
+mod insertions;
 #[cfg(test)]
 mod lattices;
 #[cfg(test)]

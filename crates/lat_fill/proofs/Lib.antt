@@ -1,0 +1,5 @@
+pub mod DegreeLists
+pub mod MemberLists
+pub mod MadeFields
+pub mod WayLists
+pub mod FilledLattices

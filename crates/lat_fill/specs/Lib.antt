@@ -1,0 +1,3 @@
+pub mod PrivateListing
+pub mod PrivateMaking
+pub mod PrivateWays

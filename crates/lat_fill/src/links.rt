@@ -1,0 +1,77 @@
+//! The maps between the fields that go into the target.
+ghost use Rattle.std.specs.Prelude.{◌≡◌, ℕ, ◌<◌, [], MatchOption, IfOk, OnOk, length};
+ghost use Rattle.alg_model.specs.Lattices.{Stored};
+ghost use Rattle.lat_world.specs.Worlds.{AreMembers};
+ghost use Rattle.lat_fill.specs.PrivateListing.{number_at};
+ghost use Rattle.lat_fill.specs.PrivateWays.{AreWays, IsHad, Keeps, Goes, IsWayFor, IsAdded};
+
+use lat_core::{Lattice, MapRow, NoMemory};
+use lat_world::{Member, World};
+
+// Appends a map, if there is one.
+pub(crate) fn add(maps: &mut Vec<MapRow>, map: Option<MapRow>) -> Result<(), NoMemory>
+    ensures { OnOk result (IsAdded maps.old.items map maps.new.items) }
+{
+    if let Some(map) = map {
+        maps.push(map)?;
+    }
+    Ok(())
+}
+
+// The map from the `a`-th to the `b`-th member that agrees with their maps into the target, if the
+// lattice has none for the pair; None also where the degree of the one doesn't divide that of the
+// other.
+fn link(lattice: &Lattice, members: &[Member], a: usize, b: usize) -> Option<MapRow>
+    requires members { AreMembers members.now }
+    requires first { a < length members.now }
+    requires second { b < length members.now }
+    ensures { MatchOption result
+        (Goes members.now a b → IsHad lattice.now [] (number_at members.now a)
+        (number_at members.now b))
+        (IsWayFor lattice.now members.now (number_at members.now a) (number_at members.now b)) }
+{
+    let (from, into) = (members[a].number, members[b].number);
+    if lattice.map(from, into).is_some() {
+        return None;
+    }
+    match World::of(members).forced(a, b) {
+        Some(map) => Some(MapRow { from, into, map }),
+        None => None,
+    }
+}
+
+// Appends the maps to the `b`-th member.
+fn add_links_to(
+    lattice: &Lattice,
+    members: &[Member],
+    b: usize,
+    maps: &mut Vec<MapRow>,
+) -> Result<(), NoMemory>
+    requires members { AreMembers members.now }
+    requires place { b < length members.now }
+    requires ways { AreWays lattice.now members.now maps.old.items }
+    ensures ways { OnOk result (AreWays lattice.now members.now maps.new.items) }
+    ensures kept { OnOk result (Keeps maps.old.items maps.new.items) }
+    ensures linked { OnOk result ((a : ℕ) → a < length members.now → Goes members.now a b
+        → IsHad lattice.now maps.new.items (number_at members.now a) (number_at members.now b)) }
+{
+    for a in 0..members.len() {
+        add(maps, link(lattice, members, a, b))?;
+    }
+    Ok(())
+}
+
+// The maps between members that the lattice lacks: one for each two whose degrees divide.
+pub(crate) fn links(lattice: &Lattice, members: &[Member]) -> Result<Vec<MapRow>, NoMemory>
+    requires { AreMembers members.now }
+    ensures ways { IfOk result (λ maps. AreWays lattice.now members.now maps.items) }
+    ensures linked { IfOk result (λ maps. (a b : ℕ) → a < length members.now
+        → b < length members.now → Goes members.now a b
+        → IsHad lattice.now maps.items (number_at members.now a) (number_at members.now b)) }
+{
+    let mut maps = Vec::new(lattice.allocator());
+    for b in 0..members.len() {
+        add_links_to(lattice, members, b, &mut maps)?;
+    }
+    Ok(maps)
+}

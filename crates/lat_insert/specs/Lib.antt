@@ -1,0 +1,4 @@
+pub mod Insertions
+pub mod PrivateDeclaring
+pub mod PrivateEmbedding
+pub mod Theorems

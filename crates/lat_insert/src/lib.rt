@@ -1,0 +1,12 @@
+//! One step of a lattice of finite fields: a field is declared, or one field is embedded in another,
+//! and the lattice stays compatible.
+#![tactic(auto)]
+
+mod declaring;
+mod embedding;
+mod laws;
+mod room;
+mod steps;
+
+pub use laws::insertions_are_forced;
+pub use steps::step;

@@ -1,0 +1,40 @@
+//! One step of a lattice.
+
+ghost use Rattle.std.specs.Prelude.{◌≡◌, Ok, IfOk, OnErr};
+ghost use Rattle.alg_model.specs.Lattices.{Grows, IsCompatible};
+ghost use Rattle.lat_core.specs.Step.{IsProperRequest, Steps};
+ghost use Rattle.lat_core.specs.declared.replies.StepRefusal.{StepRefusal};
+ghost use Rattle.lat_core.specs.declared.replies.Reply.TheVariants.{Refused};
+ghost use Rattle.lat_insert.specs.Insertions.{TakesMemory};
+
+use crate::declaring::declare;
+use crate::embedding::embed;
+use lat_core::{Lattice, NoMemory, Reply, Request};
+
+/// Does what is requested of the lattice, and answers it.
+///
+/// A field is declared under a declared name. The lattice after the step is built beside the one
+/// before it, and put in its place by one assignment. After a refusal, or where memory is refused,
+/// it is as it was. Memory is taken only for a declaration of a field that isn't there already, and
+/// for an embedding that adds maps.
+pub fn step(lattice: &mut Lattice, request: &Request) -> Result<Reply, NoMemory>
+    requires proper { IsProperRequest request.now }
+    ensures step { IfOk result (λ reply. Steps lattice.old request.now reply lattice.new) }
+    ensures kept { OnErr result (lattice.new ≡ lattice.old) }
+    ensures compatible { IsCompatible lattice.new }
+    ensures grows { Grows lattice.old lattice.new }
+    ensures refused { (refusal : StepRefusal) → result ≡ Ok (Refused refusal)
+        → lattice.new ≡ lattice.old }
+    ensures no_memory { OnErr result (TakesMemory lattice.old request.now) }
+{
+    let _edition = lattice.edition();
+    match request {
+        Request::Declare { name, p, poly } => declare(lattice, name, *p, poly),
+        Request::Embed {
+            from,
+            into,
+            sending,
+        } => embed(lattice, from, into, sending),
+        Request::Sync => Ok(Reply::Synced),
+    }
+}
