@@ -3,3 +3,4 @@ pub mod Passes
 pub mod Plays
 pub mod PrivateBooks
 pub mod PrivatePasses
+pub mod Theorems

@@ -9,8 +9,8 @@ ghost use Rattle.lat_history.specs.Plays.{IsPlayed, IsBookFault};
 
 use crate::MAX_ROOM;
 use crate::played::Played;
-use crate::stubs::step;
 use lat_core::{ChangeFault, Edition, Entry, Lattice, NoMemory, Placed, Request};
+use lat_insert::step;
 use std::alloc::Global;
 use std::marker::Model;
 

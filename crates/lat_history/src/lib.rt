@@ -2,12 +2,13 @@
 #![tactic(auto)]
 
 mod books;
+mod laws;
 mod played;
 mod solo_passes;
 mod solo_ports;
-mod stubs;
 
 pub use books::Book;
+pub use laws::seen_lifts_stay;
 pub use played::Played;
 pub use solo_passes::SoloPass;
 pub use solo_ports::SoloPort;

@@ -6,7 +6,7 @@ ghost use Rattle.lat_history.specs.PrivatePasses.{view_prop};
 
 use crate::books::Book;
 use crate::solo_passes::SoloPass;
-use crate::stubs::answer;
+use lat_coerce::answer;
 use lat_core::{Answer, ChangeFault, Placed, Port, Question, Request};
 
 /// A session's way to a book: it has the book to itself while it lasts. It was told all entries of

@@ -5,6 +5,8 @@
 #[cfg(test)]
 mod choices;
 #[cfg(test)]
+mod coercions;
+#[cfg(test)]
 mod comparisons;
 #[cfg(test)]
 mod embeddings;

@@ -1,0 +1,2 @@
+pub mod PrivateSearches
+pub mod Theorems
