@@ -19,6 +19,8 @@ mod field_values;
 #[cfg(test)]
 mod hand_examples;
 #[cfg(test)]
+mod histories;
+#[cfg(test)]
 mod insertions;
 #[cfg(test)]
 mod lattices;
