@@ -1,5 +1,5 @@
 -- A history that a change was entered in is legal again, and so is each beginning of a history.
-use Rattle.std.proofs.Common.{◌≡◌, ℕ, ◌+◌, ◌<◌, ◌≤◌, List, [], ◌∷◌, ◌++◌, length, take, drop, refl, sym, ap, ap₂, ◌∙◌, subst, arith, length-append, take-append-drop}
+use Rattle.std.proofs.Common.{◌≡◌, ℕ, ◌<◌, ◌≤◌, List, [], ◌∷◌, ◌++◌, length, take, drop, refl, sym, ap, ap₂, ◌∙◌, subst, arith, length-append, take-append-drop}
 use Rattle.alg_model.specs.Lattices as lattices
 use Rattle.alg_model.specs.Lattices.{Lattice, IsEdition}
 use Rattle.alg_model.specs.Declaring.{IsOpening}
@@ -37,13 +37,15 @@ pub legal_take : (edition : lattices.Edition) (entries : List Entry) (n : ℕ)
     → IsLegal edition entries → IsLegal edition (take n entries)
 legal_take edition entries n (M, a) =
     let parts = subst (λ es. Leads a.opening es M) (sym (take-append-drop n entries)) a.leads in
-    let (K, first, rest) = leads_split (take n entries) (drop n entries) a.opening M parts in
-    (K, record {
-      opening = a.opening;
-      of_edition = a.of_edition;
-      is_opening = a.is_opening;
-      leads = first;
-    })
+    let (K, first, rest) = leads_split (take n entries) (drop n entries) a.opening M parts in (
+      K,
+      record {
+        opening = a.opening;
+        of_edition = a.of_edition;
+        is_opening = a.is_opening;
+        leads = first;
+      },
+    )
 
 -- what a book keeps is a history
 pub kept_history : {h : History} {L : Lattice} → IsKept h L → IsHistory h
@@ -133,11 +135,11 @@ pub entered : {h : History} {L : Lattice} (K M view : Lattice) (session place : 
 entered {h} {L} K M view session place request q reply r entries k room proper same s e d added at copied =
     let step : Steps L request reply M = subst (λ (J : Lattice). Steps J request reply M) same s in
     let all : entries ≡ h.entries ++ entry_of session request reply ∷ [] =
-        added ∙ ap₂ (λ (x : Request) (y : Reply). h.entries ++ entry_of session x y ∷ []) e d in (
+    added ∙ ap₂ (λ (x : Request) (y : Reply). h.entries ++ entry_of session x y ∷ []) e d in (
       subst (λ es. IsKept (with_entries h es) M) (sym all) (entered_kept M session request reply k room proper step),
       subst (λ es. IsPlayed h (with_entries h es) session request (played_with reply place view)) (sym all)
-      (subst (λ (v : Lattice). IsPlayed h (with_entry h (entry_of session request reply)) session request (played_with reply place v))
-      (sym copied) (entered_played M session request reply k room proper step place at)),
+          (subst (λ (v : Lattice). IsPlayed h (with_entry h (entry_of session request reply)) session request (played_with reply place v))
+          (sym copied) (entered_played M session request reply k room proper step place at)),
     )
 
 -- what is told of a history is told of an equal one

@@ -1,20 +1,19 @@
 -- What a session knows through its pass, before and after a change.
-use Rattle.std.proofs.Common.{◌≡◌, ℕ, ◌+◌, ◌<◌, ◌≤◌, List, [], ◌∷◌, ◌++◌, length, take, drop, true, refl, sym, ap, ◌∙◌, subst, arith, length-append, take-append-drop, take_all, append-nil, append_assoc, Result, Ok, Err}
+use Rattle.std.proofs.Common.{◌≡◌, ℕ, ◌+◌, List, [], ◌∷◌, ◌++◌, length, take, drop, refl, sym, ap, ◌∙◌, subst, arith, length-append, take-append-drop, take_all, append-nil, append_assoc, Result, Ok, Err}
 use Rattle.std.specs.Prelude.{IfOk, IfErr, OnErr}
 use Rattle.std.proofs.lemmas.List.{take-append-le}
 use Rattle.alg_model.specs.Lattices.{Lattice}
 use Rattle.lat_core.specs.declared.requests.Request.{Request}
-use Rattle.lat_core.specs.declared.replies.Reply.{Reply}
 use Rattle.lat_core.specs.declared.replies.Entry.{Entry}
 use Rattle.lat_core.specs.declared.replies.ChangeFault.{ChangeFault}
 use Rattle.lat_core.specs.declared.replies.Placed.{Placed}
-use Rattle.lat_core.specs.Histories.{IsAfter, Knowledge, IsKnowledge, IsSameSession, AreOthers, IsPlaced, IsUnplaced}
+use Rattle.lat_core.specs.Histories.{IsAfter, Knowledge, IsKnowledge, IsSameSession, IsPlaced, IsUnplaced}
 use Rattle.lat_core.proofs.HistoryLaws.{history_one}
 use Rattle.lat_history.specs.Books.{History, IsHistory, with_entry}
 use Rattle.lat_history.specs.declared.played.Played.{Played}
 use Rattle.lat_history.specs.declared.solo_ports.SoloPort.{SoloPort}
 use Rattle.lat_history.specs.Plays.{IsPlayed}
-use Rattle.lat_history.specs.Passes.{Pass, IsView, IsPassOf, seen_of, known_of}
+use Rattle.lat_history.specs.Passes.{Pass, IsPassOf, seen_of, known_of}
 use Rattle.lat_history.proofs.BookLemmas.{legal_take, entry_of}
 
 -- what a pass shows is a session's knowledge
@@ -70,7 +69,7 @@ pub entry_placed : {old new : History} {session : ℕ} {request : Request} (pass
     played.placed.place
 entry_placed {old} {new} {session} {request} pass later played P own number front =
     let made : new ≡ with_entry old (entry_of pass.number request played.placed.reply) =
-        P.entered ∙ ap (λ (n : ℕ). with_entry old (entry_of n request played.placed.reply)) own in
+    P.entered ∙ ap (λ (n : ℕ). with_entry old (entry_of n request played.placed.reply)) own in
     subst (λ (n : History). IsPlaced (known_of old pass) (known_of n later) request played.placed.reply played.placed.place)
     (sym made)
     (record {
@@ -90,8 +89,13 @@ pub pass_moves : {old new : History} {session : ℕ} {request : Request} (pass :
     → pass.front ≡ played.placed.place + 1 → pass.view ≡ played.view → IsPassOf new pass
 pass_moves {old} {new} {session} {request} pass played k P front view =
     pass_of_all new pass k
-    (omega (arith, front, P.at_end, ap (λ (h : History). length h.entries) P.entered,
-    length-append old.entries (entry_of session request played.placed.reply ∷ [])))
+    (omega (
+      arith,
+      front,
+      P.at_end,
+      ap (λ (h : History). length h.entries) P.entered,
+      length-append old.entries (entry_of session request played.placed.reply ∷ []),
+    ))
     (subst (λ (L : Lattice). IsAfter new.edition new.entries L) (sym view) P.view)
 
 -- nothing is new
@@ -118,10 +122,10 @@ pub told_more : (old new : Knowledge) (request : Request) (result : Result Place
     → IfErr result (λ _. IsUnplaced old new)
     → (more : List Entry) × (new.told ≡ old.told ++ more) × (new.edition ≡ old.edition)
 told_more old new request (Ok done) placed unplaced = (
-      placed.others ++ entry_of old.number request done.reply ∷ [],
-      placed.told ∙ append_assoc old.told placed.others (entry_of old.number request done.reply ∷ []),
-      placed.same.edition,
-    )
+  placed.others ++ entry_of old.number request done.reply ∷ [],
+  placed.told ∙ append_assoc old.told placed.others (entry_of old.number request done.reply ∷ []),
+  placed.same.edition,
+)
 told_more old new request (Err fault) placed unplaced =
     (unplaced.others, unplaced.told, unplaced.same.edition)
 
@@ -135,7 +139,7 @@ pub port_others : (old new : SoloPort) (request : Request) (result : Result Plac
     → (other : Pass) → IsPassOf h other → IsPassOf g other
 port_others old new request result placed unplaced h g e d other p =
     let (more, told, edition) = told_more (known_of old.book.now old.pass.now)
-        (known_of new.book.now new.pass.now) request result placed unplaced in
+    (known_of new.book.now new.pass.now) request result placed unplaced in
     subst (λ (k : History). IsPassOf k other) (sym d)
     (pass_of_longer old.book.now new.book.now other more edition told
     (subst (λ (k : History). IsPassOf k other) (sym e) p))

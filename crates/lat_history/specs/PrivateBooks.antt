@@ -1,8 +1,7 @@
 -- What a `Book` keeps. No public clause cites this module.
 --     history_code, pass_code     how a proof tells values of these types apart
 --     IsKept h L                  L is the lattice after the entries, for which there is room
-use Rattle.std.specs.Prelude.{ℕ, ◌≤◌, List, length, refl}
-use Rattle.alg_model.specs.Lattices as lattices
+use Rattle.std.specs.Prelude.{◌≤◌, length}
 use Rattle.alg_model.specs.Lattices.{Lattice, IsEdition}
 use Rattle.lat_core.specs.Histories.{IsAfter}
 use Rattle.lat_history.specs.declared.TheConstants.{MAX_ROOM}

@@ -4,7 +4,7 @@
 --     view_prop          there is at most one proof that the view of a pass is the lattice that it
 --                        should be
 use Rattle.std.specs.Prelude.{ℕ, refl}
-use Rattle.std.specs.Coded.{Coded, Coded-set, code_by, coded×, coded_ℕ, Π_prop, →_prop}
+use Rattle.std.specs.Coded.{Coded, Coded-set, code_by, coded×, coded_ℕ, Π_prop}
 use Rattle.alg_model.specs.Lattices.{Lattice}
 use Rattle.lat_core.specs.PrivateLattices.{lattice_code}
 use Rattle.lat_history.specs.Books.{History}

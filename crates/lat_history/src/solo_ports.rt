@@ -47,7 +47,8 @@ impl<'a> Port for SoloPort<'a> {
     }
 
     fn read(&self, question: &Question) -> Answer {
-        answer(self.pass.view(), question)
+        let view = self.pass.view();
+        answer(view, question)
     }
 
     fn front(&self) -> u32 {
