@@ -1,6 +1,5 @@
 -- What a `Book` keeps. No public clause cites this module.
---     history_code, pass_code     how a proof tells values of these types apart
---     IsKept h L                  L is the lattice after the entries, for which there is room
+--     IsKept h L     L is the lattice after the entries, for which there is room
 use Rattle.std.specs.Prelude.{◌≤◌, length}
 use Rattle.alg_model.specs.Lattices.{Lattice, IsEdition}
 use Rattle.lat_core.specs.Histories.{IsAfter}
