@@ -1,0 +1,3 @@
+pub mod BookLemmas
+pub mod LiftsStay
+pub mod PassLemmas
