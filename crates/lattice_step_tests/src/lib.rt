@@ -4,6 +4,10 @@
 #[cfg(test)]
 mod choices;
 #[cfg(test)]
+mod coercions;
+#[cfg(test)]
+mod histories;
+#[cfg(test)]
 mod insertions;
 #[cfg(test)]
 mod values;

@@ -3,13 +3,6 @@
 #![tactic(auto)]
 
 #[cfg(test)]
-<<<<<<< HEAD
-=======
-mod choices;
-#[cfg(test)]
->>>>>>> 7c9fb147964cb4b2fe3815608e053af21f49415c
-mod coercions;
-#[cfg(test)]
 mod comparisons;
 #[cfg(test)]
 mod embeddings;
@@ -22,13 +15,6 @@ mod field_values;
 #[cfg(test)]
 mod hand_examples;
 #[cfg(test)]
-<<<<<<< HEAD
-=======
-mod histories;
-#[cfg(test)]
-mod insertions;
-#[cfg(test)]
->>>>>>> 7c9fb147964cb4b2fe3815608e053af21f49415c
 mod lattices;
 #[cfg(test)]
 mod minimal_polynomials;

@@ -1,6 +1,6 @@
 use Rattle.std.proofs.Common.{rules}
 use Rattle.lat_history.proofs.PassLemmas.{port_leaves, port_others}
-use Rattle.lattice_tests.proofs.histories.change.Goals as goal
+use Rattle.lattice_step_tests.proofs.histories.change.Goals as goal
 
 pub returns-clause-pass : goal.returns-clause-pass
 returns-clause-pass c = port_leaves c.change.new.self _ _ (search rules) (search rules)

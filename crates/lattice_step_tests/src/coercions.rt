@@ -3,7 +3,7 @@
 ghost use Rattle.std.specs.Prelude.{◌<◌, length};
 ghost use Rattle.lat_core.specs.Answers.{IsTaggedValue, Fits};
 
-use crate::field_values::value_of;
+use crate::values::value_of;
 use lat_coerce::{answer, common, lift, meet};
 use lat_core::{Answer, CoerceFault, Edition, FieldName, Lattice, Question, Tagged};
 use std::process::Abort;
