@@ -1,0 +1,4 @@
+pub mod Variables
+pub mod Commands
+pub mod Outcomes
+pub mod Playing
