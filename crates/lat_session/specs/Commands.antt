@@ -3,6 +3,7 @@
 --     field_words c           the fields that it looks up, in the order of the words
 --     result_name c           the name under which it stores what it computes
 --     request_of variables c  the change that it asks for
+--     IsProperCommand c       it declares a field under a declared name, if it declares one
 use Rattle.std.specs.Prelude.{ℕ, List, [], ◌∷◌, Option, Some, None}
 use Rattle.std.specs.Option.{option_map, option_and_then}
 use Rattle.std.specs.FinMap.{get}
@@ -10,6 +11,7 @@ use Rattle.lat_core.specs.declared.tagged.Tagged.{Tagged}
 use Rattle.lat_core.specs.declared.tagged.Sending.{Sending}
 use Rattle.lat_core.specs.declared.requests.Request.{Request}
 use Rattle.lat_core.specs.declared.requests.Request.TheVariants as requests
+use Rattle.lat_core.specs.Names.{IsDeclaredName}
 use Rattle.lat_session.specs.declared.commands.Command.{Command}
 use Rattle.lat_session.specs.declared.commands.Command.TheVariants.{Field, Embed, EmbedSending, Sync, Let, Add, Mul, Inv, Pow, Frob, Trace, Norm, Lift, Show, Map, Meet, Common, MinPoly, MinPolyOver, Count}
 use Rattle.lat_session.specs.declared.commands.Command.TheVariants as commands
@@ -69,3 +71,8 @@ request_of variables (EmbedSending from into value image) =
     option_map (λ s. requests.Embed from into (Some s)) (sending_of variables value image)
 request_of variables Sync = Some requests.Sync
 request_of variables _ = None
+
+-- names that begin with `_` are the lattice's own
+abbrev pub IsProperCommand : Command → Type 0
+IsProperCommand (Field name p poly) = IsDeclaredName name
+IsProperCommand _ = Unit {0}

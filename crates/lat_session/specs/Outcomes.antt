@@ -4,8 +4,9 @@
 --     Shows L answer outcome                how the answer is shown
 --     Reads, Combines, Inverts, Lifts       a value that is computed, or why there is none
 --     IsInPrimeField L i v c                c is the value v of field i, in the prime field
---     Computes operations L variables c result     a command that stores: its value, or why it has
---                                           none
+--     Operations                            what the operations of a session are
+--     Computes operations L variables c computed     a command that stores: its value, or why it
+--                                           has none
 --     HasOutcome operations L variables c outcome new     the outcome, and the variables afterwards
 use Rattle.std.specs.Prelude.{◌≡◌, ℕ, ◌<◌, ◌≤◌, List, [], ◌∷◌, length, slice_index_or, All, Option, Some, Result, Ok, Err}
 use Rattle.std.specs.List.{AllByRecursion}
@@ -16,6 +17,7 @@ use Rattle.alg_model.specs.Maps as maps
 use Rattle.alg_model.specs.Maps.{field_values, degree_of}
 use Rattle.alg_model.specs.Conjugates.{trace, norm}
 use Rattle.alg_model.specs.Lattices.{Lattice, no_row, field_at, Stored}
+use Rattle.ff_poly.specs.Polynomial.{Polynomial}
 use Rattle.ff_field.specs.SmallFields.{IsFirstTooLarge}
 use Rattle.lat_core.specs.declared.tagged.Tagged.{Tagged}
 use Rattle.lat_core.specs.declared.questions.Question.{Question}
@@ -80,7 +82,7 @@ pub data Shows (L : Lattice) : Answer → Outcome → Type 0 where
   image : {v : List ℕ} → Shows L (answers.Image v) (outcomes.Image v)
   named : {n : ℕ} → Shows L (answers.Is n) (outcomes.Named (name_at L n))
   numbers : {ns : List ℕ} → Shows L (answers.Numbers ns) (outcomes.Numbers ns)
-  polynomial : {f : _} → Shows L (answers.Poly f) (outcomes.Poly f)
+  polynomial : {f : Polynomial} → Shows L (answers.Poly f) (outcomes.Poly f)
   over_field : {g : List (List ℕ)} → Shows L (answers.RelPoly g) (outcomes.RelPoly g)
   counted : {fields maps : ℕ} → Shows L (answers.Counted fields maps)
       (outcomes.Counted fields maps)
@@ -140,7 +142,11 @@ pub data Lifts (L : Lattice) (t : Tagged) (j : ℕ) : Computed → Type 0 where
       → Lifts L t j (Err (refusal_of fault))
   value : {u : Tagged} → LiftsTo L t j (answers.Lifted u) → Lifts L t j (Ok u)
 
-module _ (operations : Op → maps.Field → List ℕ → List ℕ) where
+-- the value of each operation at a value of a field
+abbrev pub Operations : Type 0
+Operations = Op → maps.Field → List ℕ → List ℕ
+
+module _ (operations : Operations) where
   -- once all names are known
   pub data Computes (L : Lattice) (variables : Variables) : Command → Computed → Type 0 where
     of_let : {result field digits : List ℕ} {i : ℕ} {computed : Computed} → IsNamed L i field

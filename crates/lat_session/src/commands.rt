@@ -24,7 +24,10 @@ pub enum Command {
         poly: Digits,
     },
     /// Embeds one field into another.
-    Embed { from: FieldName, into: FieldName },
+    Embed {
+        from: FieldName,
+        into: FieldName,
+    },
     /// The same, sending the value of one variable to that of another.
     EmbedSending {
         from: FieldName,
@@ -53,7 +56,10 @@ pub enum Command {
         right: FieldName,
     },
     /// The inverse.
-    Inv { result: FieldName, value: FieldName },
+    Inv {
+        result: FieldName,
+        value: FieldName,
+    },
     /// The power.
     Pow {
         result: FieldName,
@@ -61,11 +67,20 @@ pub enum Command {
         exponent: u64,
     },
     /// The power by the characteristic.
-    Frob { result: FieldName, value: FieldName },
+    Frob {
+        result: FieldName,
+        value: FieldName,
+    },
     /// The trace over the prime field.
-    Trace { result: FieldName, value: FieldName },
+    Trace {
+        result: FieldName,
+        value: FieldName,
+    },
     /// The norm over the prime field.
-    Norm { result: FieldName, value: FieldName },
+    Norm {
+        result: FieldName,
+        value: FieldName,
+    },
     /// The value in another field, along a stored map or back along one.
     Lift {
         result: FieldName,
@@ -73,9 +88,14 @@ pub enum Command {
         to: FieldName,
     },
     /// A variable's value.
-    Show { value: FieldName },
+    Show {
+        value: FieldName,
+    },
     /// The image of the generator.
-    Map { from: FieldName, into: FieldName },
+    Map {
+        from: FieldName,
+        into: FieldName,
+    },
     /// The field in which the images of the first two in the third meet.
     Meet {
         first: FieldName,
@@ -83,13 +103,23 @@ pub enum Command {
         within: FieldName,
     },
     /// A field of least degree into which both go.
-    Common { first: FieldName, second: FieldName },
+    Common {
+        first: FieldName,
+        second: FieldName,
+    },
     /// The minimal polynomial over the prime field.
-    MinPoly { value: FieldName },
+    MinPoly {
+        value: FieldName,
+    },
     /// The minimal polynomial over a field.
-    MinPolyOver { value: FieldName, over: FieldName },
+    MinPolyOver {
+        value: FieldName,
+        over: FieldName,
+    },
     /// The stored subfields of a field.
-    List { field: FieldName },
+    List {
+        field: FieldName,
+    },
     /// The numbers of fields and of maps.
     Count,
 }

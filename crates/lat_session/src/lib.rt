@@ -2,9 +2,19 @@
 //! compute with.
 #![tactic(auto)]
 
+mod asking;
+mod changes;
+mod combining;
 mod commands;
+mod computing;
+mod keeping;
+mod pairs;
+mod playing;
+mod reading;
+mod sessions;
 
 pub use commands::{Command, Op};
+pub use sessions::Session;
 
 /// The most variables that a session holds.
 pub const MAX_VARIABLES: usize = 1024;
