@@ -1,0 +1,9 @@
+pub mod Tables
+pub mod Questioned
+pub mod Plays
+pub mod AskedLines
+pub mod ComputedValues
+pub mod FittingValues
+pub mod FittingPlays
+pub mod CombinedValues
+pub mod PlayedLines
