@@ -1,5 +1,5 @@
-//! `field_timer`: repeats one operation of a finite field, or with an embedding of one, and prints a
-//! checksum, so that a script can time it beside other systems (`bench/time_field`).
+//! `field_timer`: repeats one operation of a finite field, or with an embedding of one, and prints
+//! a checksum, so that a script can time it beside other systems (`bench/time_field`).
 //!
 //! Its words are the operation, the characteristic, how often, and the coefficients of the field's
 //! polynomial, lowest first; for an embedding then `from` and those of the field that is embedded.

@@ -122,9 +122,10 @@ pub goes_iff : (ms : List Member) (a b x y : ℕ) (d e : Member) → a < length 
 goes_iff ms a b x y d e la lb p q =
     let u : x ≡ degree_of (map_at ms a).source = p ∙ ap (λ r. degree_of r.map.source) (same_member ms a d la) in
     let v : y ≡ degree_of (map_at ms b).source = q ∙ ap (λ r. degree_of r.map.source) (same_member ms b e lb) in
-    let i : (x ∣ y) ↔ (y % x ≡ 0) = dvd_iff_mod-eq-zero x in
-    (λ h. subst (λ n. n ∣ degree_of (map_at ms b).source) u (subst (λ n. x ∣ n) v (i.1 h)),
-    λ g. i.0 (subst (λ n. x ∣ n) (sym v) (subst (λ n. n ∣ degree_of (map_at ms b).source) (sym u) g)))
+    let i : (x ∣ y) ↔ (y % x ≡ 0) = dvd_iff_mod-eq-zero x in (
+      λ h. subst (λ n. n ∣ degree_of (map_at ms b).source) u (subst (λ n. x ∣ n) v (i.1 h)),
+      λ g. i.0 (subst (λ n. x ∣ n) (sym v) (subst (λ n. n ∣ degree_of (map_at ms b).source) (sym u) g)),
+    )
 
 module _ {L : Lattice} {ms : List Member} where
   pub link_way : (a b : ℕ) (d e : Member) (m : FieldMap) → a < length ms → b < length ms

@@ -1,8 +1,8 @@
 -- What the steps of an insertion tell one another. No public clause cites this module.
 --     AddsMaps L E F sending         embedding field E into field F adds maps
 --     IsMissingCount L E F n         n degrees are missing
---     FillsBy L E F v M made linked  M is L filled by the map that sends the generator of E to v; so
---                                    many fields are made and pairs linked
+--     FillsBy L E F v M made linked  M is L filled by the map that sends the generator of E to v;
+--                                    so many fields are made and pairs linked
 use Rattle.std.specs.Prelude.{◌≡◌, ℕ, ◌+◌, List, length, Option}
 use Rattle.alg_model.specs.Lattices.{Lattice}
 use Rattle.alg_model.specs.Candidates.{embedding_by, AreMissing}

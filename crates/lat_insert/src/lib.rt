@@ -1,5 +1,5 @@
-//! One step of a lattice of finite fields: a field is declared, or one field is embedded in another,
-//! and the lattice stays compatible.
+//! One step of a lattice of finite fields: a field is declared, or one field is embedded in another
+//! one, and the lattice stays compatible.
 #![tactic(auto)]
 
 mod declaring;

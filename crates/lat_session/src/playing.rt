@@ -17,8 +17,8 @@ impl Session {
     /// Plays a command over a port, and gives its line.
     ///
     /// A field is declared under a declared name, and the variables are values of fields of the
-    /// lattice that the port has seen; they are again afterwards. Where memory is refused, no change
-    /// was entered, and the variables are as before.
+    /// lattice that the port has seen; they are again afterwards. Where memory is refused, no
+    /// change was entered, and the variables are as before.
     pub fn play<P: Port>(&mut self, port: &mut P, command: &Command) -> Result<Line, NoMemory>
         requires proper { IsProperCommand command.now }
         requires fit { FitSeen (P.knowledge port.old) self.old }
@@ -40,8 +40,8 @@ impl Session {
         requires proper { IsProperCommand command.now }
         requires fit { FitSeen (P.knowledge port.old) self.old }
         requires known { IsKnowledge (P.knowledge port.old) }
-        ensures { IsPlayed (P.knowledge port.old) self.old command.now (P.knowledge port.new) self.new
-            (P.borrows port.old) (P.borrows port.new) result }
+        ensures { IsPlayed (P.knowledge port.old) self.old command.now (P.knowledge port.new)
+            self.new (P.borrows port.old) (P.borrows port.new) result }
     {
         match command {
             Command::Field { name, p, poly } => change(port, &declare(name, *p, poly)),

@@ -22,11 +22,7 @@ fn declaration(rt: &impl Abort, name: &str) -> Request
 }
 
 // A session's change, through a port that lasts as long.
-fn change(
-    book: &mut Book,
-    pass: &mut SoloPass,
-    request: &Request,
-) -> Result<Placed, ChangeFault>
+fn change(book: &mut Book, pass: &mut SoloPass, request: &Request) -> Result<Placed, ChangeFault>
     requires proper { IsProperRequest request.now }
     requires pass { IsPassOf book.old pass.old }
     ensures pass { IsPassOf book.new pass.new }
@@ -74,10 +70,15 @@ fn a_session_sees_a_field_once_it_has_changed_something(rt: HostRuntime) -> Resu
     let name = FieldName::declared("K").expect(&rt, "a declared name");
     let placed = change(&mut book, &mut first, &declaration(&rt, "K"))?;
     assert_eq!(rt; placed.place, 0);
-    assert!(rt; matches!(
-        &placed.reply,
-        Reply::Declared { number: 11, already: false }
-    ));
+    assert!(rt;
+        matches!(
+            &placed.reply,
+            Reply::Declared {
+                number: 11,
+                already: false
+            }
+        )
+    );
     assert_eq!(rt; number_of(&mut book, &mut first, &name), Some(11));
     assert_eq!(rt; number_of(&mut book, &mut second, &name), None);
     let synced = change(&mut book, &mut second, &Request::Sync)?;

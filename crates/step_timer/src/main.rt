@@ -1,5 +1,5 @@
-//! `step_timer`: plays the `field` and `embed` lines of a script from standard input on one lattice,
-//! and prints how many fields, maps and changes there are, so that a script can time it
+//! `step_timer`: plays the `field` and `embed` lines of a script from standard input on one
+//! lattice, and prints how many fields, maps and changes there are, so that a script can time it
 //! (`bench/time_steps`). Other lines are passed over. With the word `two` the lattice is of the
 //! second edition, else of the first one.
 #![tactic(auto)]

@@ -32,16 +32,16 @@ loop-d-preserved c =
     let N = Narrows L E F (IsNeeded L E F) (c.loop-d.d + 1) None in
     elim c.if-is_needed.branch [
       | then-is_needed w ↦ record {
-            polynomial = subst P (sym w.polynomial-is) w.narrowed_by-polynomial.ensures.polynomial;
-            narrows = subst N (sym w.polynomial-is) w.narrowed_by-polynomial.ensures.narrows;
-          }
+        polynomial = subst P (sym w.polynomial-is) w.narrowed_by-polynomial.ensures.polynomial;
+        narrows = subst N (sym w.polynomial-is) w.narrowed_by-polynomial.ensures.narrows;
+      }
       | else-is_needed w ↦ record {
-            polynomial = subst P (sym w.polynomial-is) c.loop-d.invariant.polynomial;
-            narrows = subst N (sym w.polynomial-is) (selects_other c.fields-d-end.ensures.whole c.requires.fields
-                c.requires.alike c.loop-d.invariant.narrows
-                (λ need x f. let h : c.is_needed.result ≡ true = c.is_needed.ensures.1 need in
-                let e : c.is_needed.result ≡ false = w.if-is_needed.false in cc));
-          }
+        polynomial = subst P (sym w.polynomial-is) c.loop-d.invariant.polynomial;
+        narrows = subst N (sym w.polynomial-is) (selects_other c.fields-d-end.ensures.whole c.requires.fields
+            c.requires.alike c.loop-d.invariant.narrows
+            (λ need x f. let h : c.is_needed.result ≡ true = c.is_needed.ensures.1 need in
+            let e : c.is_needed.result ≡ false = w.if-is_needed.false in cc));
+      }
     ]
 
 pub returns-clause-narrows : goal.returns-clause-narrows
