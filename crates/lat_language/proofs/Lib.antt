@@ -4,3 +4,7 @@ pub mod ReadWords
 pub mod CommandWords
 pub mod LineMeanings
 pub mod OneMeaning
+pub mod SomeMeaning
+pub mod SessionPlaces
+pub mod ParsedLines
+pub mod AppendedTexts
