@@ -1,6 +1,6 @@
 -- Words spell a command exactly where that command is read from them.
-use Rattle.std.proofs.Common.{◌≡◌, ℕ, ◌+◌, ◌<◌, ◌≤◌, ◌^◌, Option, Some, None, List, [], ◌∷◌, map, sym, refl, ap, ◌∙◌, subst, inl, inr, arith, lit≤}
-use Rattle.std.specs.Prelude.{◌⊎◌, codes, All, option_and_then, find, cond}
+use Rattle.std.proofs.Common.{◌≡◌, ℕ, ◌^◌, Option, Some, None, List, [], ◌∷◌, map, sym, refl, ap, ◌∙◌, subst, inl, inr, lit≤}
+use Rattle.std.specs.Prelude.{codes, option_and_then, find, cond}
 use Rattle.std.specs.Str.{bytes_eq}
 use Rattle.std.specs.List.{AllByRecursion}
 use Rattle.std.proofs.lemmas.Bool.{cases_Bool}
@@ -11,8 +11,8 @@ use Rattle.lat_language.specs.declared.commands.Command.TheVariants as command
 use Rattle.lat_language.specs.declared.verbs.TheConstants.{VERBS}
 use Rattle.lat_language.specs.declared.verbs.Verb.{Verb}
 use Rattle.lat_language.specs.declared.verbs.Verb.TheVariants as verb
-use Rattle.lat_language.specs.Commands.{Word, Fixed, Name, FieldWord, Number, Coefficients, Operation, word_text, IsWord, form_of, command_words, SpellsCommand}
-use Rattle.lat_language.specs.PrivateReading.{name_of, field_of, number_of, digits_of, op_of, fixed_of, verb_text, verb_of, one, two, three, four, no_operands, one_operand, two_operands, embed_plain, minpoly_over, three_operands, meet_in, four_operands, behind, embed_sending, seven_operands, operands_of, command_of}
+use Rattle.lat_language.specs.Commands.{Word, Fixed, word_text, IsWord, form_of, command_words, SpellsCommand}
+use Rattle.lat_language.specs.PrivateReading.{name_of, field_of, number_of, digits_of, op_of, fixed_of, verb_text, verb_of, one, two, three, four, no_operands, one_operand, two_operands, three_operands, four_operands, behind, seven_operands, operands_of, command_of}
 use Rattle.lat_language.specs.PrivateDecisions.{Decided, Spelled}
 use Rattle.lat_language.proofs.ReadWords.{name_spelled, name_given, field_spelled, field_given, number_spelled, number_given, digits_spelled, digits_given, op_spelled, op_given}
 

@@ -4,7 +4,3 @@ pub mod ReadWords
 pub mod CommandWords
 pub mod LineMeanings
 pub mod OneMeaning
-pub mod SomeMeaning
-pub mod SessionPlaces
-pub mod ParsedLines
-pub mod AppendedTexts

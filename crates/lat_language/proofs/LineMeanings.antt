@@ -1,9 +1,8 @@
 -- What a line says: which form it has, or which fault.
-use Rattle.std.proofs.Common.{◌≡◌, ℕ, ◌<◌, ◌≤◌, true, false, cond, eqb, Option, Some, None, Ok, Err, List, [], ◌∷◌, length, sym, refl, ap, ◌∙◌, subst, inl, inr, arith}
-use Rattle.std.specs.Prelude.{◌==◌, ◌⊎◌, not, filter, codes, All, Contains, IfSome}
+use Rattle.std.proofs.Common.{◌≡◌, ℕ, ◌<◌, ◌≤◌, true, false, cond, eqb, Some, None, Ok, Err, List, [], ◌∷◌, length, sym, refl, ap, ◌∙◌, subst, inl, inr, arith}
+use Rattle.std.specs.Prelude.{◌==◌, not, filter, codes, All, Contains, IfSome}
 use Rattle.std.specs.List.{slice_split, onto_first}
 use Rattle.std.proofs.lemmas.Bool.{true≢false}
-use Rattle.lat_core.specs.Names.{IsDeclaredName}
 use Rattle.lat_language.specs.declared.scripts.TheConstants.{MAX_LINE, MAX_COMMANDS, MAX_SESSIONS}
 use Rattle.lat_language.specs.declared.commands.Command.{Command}
 use Rattle.lat_language.specs.declared.script_faults.TheConstants.{TOO_LONG, NO_HEADER, NO_FORM, AFTER_SCHEDULE, TOO_MANY_SESSIONS, SESSION_TWICE, TOO_MANY_COMMANDS, NO_SESSION}

@@ -1,8 +1,8 @@
 -- A text means one thing: one script, or one first fault.
-use Rattle.std.proofs.Common.{◌≡◌, ℕ, ◌+◌, Result, Ok, Err, List, [], ◌∷◌, sym, refl, ap, ◌∙◌, subst, inl, inr}
+use Rattle.std.proofs.Common.{◌≡◌, ℕ, ◌+◌, Result, Ok, Err, List, [], ◌∷◌, sym, ap, ◌∙◌, subst, inl, inr}
 use Rattle.std.specs.Prelude.{MatchResult}
 use Rattle.lat_language.specs.declared.scripts.Script.{Script}
-use Rattle.lat_language.specs.Grammar.{lines_of, State, at_start, Form, after, HasForm, faults, IsFirst, NoneHolds, Says, Means, Spells, FirstBad}
+use Rattle.lat_language.specs.Grammar.{lines_of, State, at_start, Form, after, faults, IsFirst, NoneHolds, Says, Means, Spells, FirstBad}
 use Rattle.lat_language.proofs.LineMeanings.{form_unique}
 
 -- at most one condition is the first that holds, and none where none holds

@@ -1,5 +1,5 @@
 -- What is read of a word is what the word spells.
-use Rattle.std.proofs.Common.{◌≡◌, ℕ, ◌+◌, ◌<◌, ◌≤◌, ◌^◌, Bool, true, false, cond, Option, Some, None, List, [], ◌∷◌, sym, refl, ap, ◌∙◌, subst, inl, inr, arith}
+use Rattle.std.proofs.Common.{◌≡◌, ℕ, ◌+◌, ◌<◌, ◌≤◌, ◌^◌, Bool, true, false, cond, Option, Some, None, List, ◌∷◌, sym, refl, ap, ◌∙◌, subst, inl, inr, arith}
 use Rattle.std.specs.Prelude.{◌≢◌, ◌⊎◌, codes, decimal, length, SomeIff, MatchOption}
 use Rattle.std.specs.Str.{bytes_eq}
 use Rattle.std.proofs.lemmas.Bool.{cases_Bool}
@@ -11,7 +11,7 @@ use Rattle.lat_core.specs.Names.{IsDeclaredName, IsMadeName, IsFieldName}
 use Rattle.lat_core.specs.Digits.{IsDigitCount, AreDigits}
 use Rattle.lat_language.specs.declared.commands.Op.{Op}
 use Rattle.lat_language.specs.declared.commands.Op.TheVariants.{First, Second, Third}
-use Rattle.lat_language.specs.Commands.{digits_text, Word, Name, FieldWord, Number, Coefficients, Operation, word_text, IsWord}
+use Rattle.lat_language.specs.Commands.{digits_text, Name, FieldWord, Number, Coefficients, Operation}
 use Rattle.lat_language.specs.PrivateReading.{name_of, field_of, number_of, digits_of, op_of}
 use Rattle.lat_language.specs.PrivateDecisions.{Decided, Spelled, found, decide_name, decide_field_word, decide_number, decide_digits}
 use Rattle.lat_language.specs.PrivateCoefficients.{digits_text_injective}

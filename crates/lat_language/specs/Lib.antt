@@ -6,5 +6,3 @@ pub mod PrivateCuts
 pub mod PrivateCoefficients
 pub mod PrivateDecisions
 pub mod PrivateReading
-pub mod PrivateParsing
-pub mod PrivateAppending

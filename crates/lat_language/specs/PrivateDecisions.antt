@@ -1,6 +1,6 @@
 -- Each condition on a word of a line holds or fails. No public clause cites this module.
-use Rattle.std.proofs.Common.{◌≡◌, ℕ, zero, suc, ◌<◌, ◌≤◌, ◌^◌, Option, Some, None, List, [], ◌∷◌, length, map, sym, refl, ap, ◌∙◌, subst, inl, inr, arith}
-use Rattle.std.specs.Prelude.{◌⊎◌, ◌≢◌, ◌==◌, decimal, All, IfSome}
+use Rattle.std.proofs.Common.{◌≡◌, ℕ, zero, suc, ◌<◌, ◌≤◌, Option, Some, None, List, [], ◌∷◌, length, map, sym, refl, ap, ◌∙◌, subst, inl, inr, arith}
+use Rattle.std.specs.Prelude.{◌⊎◌, ◌==◌, decimal, All, IfSome}
 use Rattle.std.specs.Char.{IsAsciiAlphabetic}
 use Rattle.std.specs.Int.{IsInRange}
 use Rattle.std.proofs.lemmas.List.{length-map}
@@ -10,7 +10,7 @@ use Rattle.alg_model.specs.Lattices.{made_name}
 use Rattle.lat_core.specs.declared.TheConstants.{MAX_FIELDS}
 use Rattle.lat_core.specs.declared.names.TheConstants.{MAX_NAME}
 use Rattle.lat_core.specs.declared.digits.TheConstants.{MAX_DIGITS}
-use Rattle.lat_core.specs.Names.{IsNameByte, IsDeclaredName, IsMadeName, IsFieldName}
+use Rattle.lat_core.specs.Names.{IsNameByte, IsDeclaredName, IsFieldName}
 use Rattle.lat_core.specs.Digits.{AreDigits}
 use Rattle.lat_language.specs.Commands.{digits_text, Word, Name, FieldWord, Number, Coefficients, word_text, IsWord}
 use Rattle.lat_language.specs.PrivateCoefficients.{split_cons, between_commas, parts-digits_text, digits_text_from_parts}

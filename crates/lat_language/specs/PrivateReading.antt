@@ -3,7 +3,7 @@
 --     name_of text, ..         the operand that a text is, if it is one
 --     verb_of text             the verb that a text is, if it is one
 --     command_of words         the command that the words are, if they are one
-use Rattle.std.specs.Prelude.{◌≡◌, ℕ, ◌^◌, if◌then◌else◌, Option, Some, None, option_and_then, List, [], ◌∷◌, find, codes}
+use Rattle.std.specs.Prelude.{ℕ, ◌^◌, if◌then◌else◌, Option, Some, None, option_and_then, List, [], ◌∷◌, find, codes}
 use Rattle.std.specs.Str.{bytes_eq}
 use Rattle.lat_language.specs.declared.commands.Op.{Op}
 use Rattle.lat_language.specs.declared.commands.Op.TheVariants.{First, Second, Third}
@@ -12,7 +12,6 @@ use Rattle.lat_language.specs.declared.commands.Command.TheVariants as command
 use Rattle.lat_language.specs.declared.verbs.TheConstants.{VERBS}
 use Rattle.lat_language.specs.declared.verbs.Verb.{Verb}
 use Rattle.lat_language.specs.declared.verbs.Verb.TheVariants as verb
-use Rattle.lat_language.specs.Commands.{Name, FieldWord, Number, Coefficients}
 use Rattle.lat_language.specs.PrivateDecisions.{found, decide_name, decide_field_word, decide_number, decide_digits}
 
 -- the operand that a text is, if it is one

@@ -1,9 +1,8 @@
 -- Laws of the script language, each under a name.
---     OneScript, OneFault       a text spells one script, or has one first fault,
---     NeverBoth, ScriptOrFault  never both, and always one of the two
---     OneCommand                words spell one command
---     Limits, FaultKinds        the limits and the kinds of fault, as numbers
-use Rattle.std.specs.Prelude.{◌≡◌, ◌⊎◌, ℕ, List}
+--     OneScript, OneFault, NeverBoth   a text spells one script, or has one first fault, never both
+--     OneCommand                       words spell one command
+--     Limits, FaultKinds               the limits and the kinds of fault, as numbers
+use Rattle.std.specs.Prelude.{◌≡◌, ℕ, List}
 use Rattle.lat_language.specs.declared.scripts.TheConstants.{MAX_SCRIPT, MAX_LINE, MAX_COMMANDS, MAX_SESSIONS, SCHEDULE_NAMES}
 use Rattle.lat_language.specs.declared.scripts.Script.{Script}
 use Rattle.lat_language.specs.declared.commands.Command.{Command}
@@ -23,11 +22,6 @@ OneFault = (bytes : List ℕ) (m n k l : ℕ) → FirstBad bytes m k → FirstBa
 -- what spells a script has no fault
 abbrev pub NeverBoth : Type 0
 NeverBoth = (bytes : List ℕ) (s : Script) (n k : ℕ) → Spells bytes s → FirstBad bytes n k → ⊥
-
--- a text spells a script or has a first fault
-abbrev pub ScriptOrFault : Type 0
-ScriptOrFault = (bytes : List ℕ) → ((script : Script) × Spells bytes script)
-    ⊎ ((n : ℕ) × (kind : ℕ) × FirstBad bytes n kind)
 
 -- words spell at most one command
 abbrev pub OneCommand : Type 0

@@ -25,7 +25,10 @@ pub enum Command {
         poly: Digits,
     },
     /// `embed FIELD into FIELD`: embeds one field into another.
-    Embed { from: FieldName, into: FieldName },
+    Embed {
+        from: FieldName,
+        into: FieldName,
+    },
     /// `embed FIELD into FIELD sending VAR to VAR`: the same, with a prescribed image.
     EmbedSending {
         from: FieldName,
@@ -92,9 +95,14 @@ pub enum Command {
         value: FieldName,
     },
     /// `show VAR`: shows a value.
-    Show { value: FieldName },
+    Show {
+        value: FieldName,
+    },
     /// `map FIELD FIELD`: shows the image of the generator of one field in another.
-    Map { from: FieldName, into: FieldName },
+    Map {
+        from: FieldName,
+        into: FieldName,
+    },
     /// `meet FIELD FIELD in FIELD`: shows in which field two fields meet in a third one.
     Meet {
         first: FieldName,
@@ -107,14 +115,18 @@ pub enum Command {
         second: FieldName,
     },
     /// `minpoly VAR`: shows the minimal polynomial of a value over the prime field.
-    MinPoly { value: FieldName },
+    MinPoly {
+        value: FieldName,
+    },
     /// `minpoly VAR over FIELD`: shows the minimal polynomial of a value over a field.
     MinPolyOver {
         value: FieldName,
         over: FieldName,
     },
     /// `list FIELD`: shows the stored subfields of a field.
-    List { field: FieldName },
+    List {
+        field: FieldName,
+    },
     /// `count`: shows the numbers of fields and of maps.
     Count,
 }

@@ -1,13 +1,13 @@
 //! Laws of the script language: functions that do nothing, whose clauses are the laws.
 
-ghost use Rattle.lat_language.specs.Theorems.{OneScript, OneFault, NeverBoth, ScriptOrFault, OneCommand, Limits, FaultKinds};
+ghost use Rattle.lat_language.specs.Theorems.{OneScript, OneFault, NeverBoth, OneCommand, Limits, FaultKinds};
 
-/// Bytes have one reading: they spell one script, or have one first fault, and never both.
+/// Bytes have one reading: they spell at most one script, or have at most one first fault, and
+/// never both.
 pub fn one_reading()
     ensures scripts { OneScript }
     ensures faults { OneFault }
     ensures never_both { NeverBoth }
-    ensures some { ScriptOrFault }
 {}
 
 /// The words of a line spell at most one command.
