@@ -10,8 +10,7 @@ use ff_lists::BoundedList;
 use ff_poly::MAX_DEGREE;
 use std::cmp::Ordering;
 
-/// At most `MAX_DEGREE` values. The calls that give roots put the least first; the type keeps no
-/// order.
+/// At most `MAX_DEGREE` values, least first.
 pub type RootList = BoundedList<Value, MAX_DEGREE>;
 
 // Puts a value that isn't in the list before the first that comes after it.
