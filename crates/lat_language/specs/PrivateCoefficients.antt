@@ -19,7 +19,8 @@ pub split_cons : (p : ℕ → Bool) (text : List ℕ)
 split_cons p [] = ([], [], refl)
 split_cons p (x ∷ xs) =
     let rest = split_cons p xs in
-    elim (p x) as (λ b. (first : List ℕ) × (more : List (List ℕ)) × (cond b ([] ∷ slice_split p xs) (onto_first x (slice_split p xs)) ≡ first ∷ more)) [
+    elim (p x) as (λ b. (first : List ℕ) × (more : List (List ℕ))
+    × (cond b ([] ∷ slice_split p xs) (onto_first x (slice_split p xs)) ≡ first ∷ more)) [
       | true ↦ ([], slice_split p xs, refl)
       | false ↦ (x ∷ rest.0, rest.1, ap (onto_first x) rest.2)
     ]
@@ -40,9 +41,11 @@ no_comma_in n l = no_comma (decimal n) (decimal_is_IsNumeral n (omega arith)).0.
 parts-join : (c : List ℕ) → 0 < length c → All (λ n. n < 256) c
     → between_commas (join_with_byte 44 (map decimal c)) ≡ map decimal c
 parts-join [] some small = absurd (omega arith)
-parts-join (n ∷ []) some small = slice_split_none (λ b. eqb b 44) (decimal n) (no_comma_in n (All-head (λ n. n < 256) n [] small))
+parts-join (n ∷ []) some small = slice_split_none (λ b. eqb b 44) (decimal n)
+    (no_comma_in n (All-head (λ n. n < 256) n [] small))
 parts-join (n ∷ m ∷ c) some small =
-    slice_split_at (λ b. eqb b 44) (decimal n) 44 (join_with_byte 44 (map decimal (m ∷ c))) (no_comma_in n (All-head (λ n. n < 256) n (m ∷ c) small)) refl
+    slice_split_at (λ b. eqb b 44) (decimal n) 44 (join_with_byte 44 (map decimal (m ∷ c)))
+    (no_comma_in n (All-head (λ n. n < 256) n (m ∷ c) small)) refl
     ∙ ap (λ r. decimal n ∷ r) (parts-join (m ∷ c) (omega arith) (All-tail (λ n. n < 256) n (m ∷ c) small))
 
 -- the parts of the text of a list are its numbers in decimal
@@ -118,7 +121,8 @@ pub pushed_last : (word xs part all : List ℕ) (n : ℕ) → All (λ n. n < 256
     → AreDigits all × (word ≡ digits_text all)
 pushed_last word xs part all n small l room e so_far is =
     let more = push_parts xs part [] (between_commas word) n so_far is in
-    let texts : between_commas word ≡ map decimal (xs ++ n ∷ []) = sym more ∙ append-nil (map decimal (xs ++ n ∷ [])) in (
+    let texts : between_commas word ≡ map decimal (xs ++ n ∷ []) =
+    sym more ∙ append-nil (map decimal (xs ++ n ∷ [])) in (
       subst AreDigits (sym e) (record {
         count = (omega (arith, length_push xs n), omega (arith, length_push xs n));
         bytes = All-push (λ n. n < 256) xs n small l;

@@ -84,11 +84,13 @@ decide_letter : (b : ℕ) → Decided (IsAsciiAlphabetic b)
 decide_letter b = either (decide_range 65 90 b) (decide_range 97 122 b)
 
 decide_name_byte : (b : ℕ) → Decided (IsNameByte b)
-decide_name_byte b = either (either (either (decide_range 48 57 b) (decide_range 65 90 b)) (decide_range 97 122 b)) (cases_eq b 95)
+decide_name_byte b = either (either (either (decide_range 48 57 b) (decide_range 65 90 b))
+    (decide_range 97 122 b)) (cases_eq b 95)
 
 pub decide_declared : (text : List ℕ) → Decided (IsDeclaredName text)
 decide_declared [] = inr (λ h. h)
-decide_declared (b ∷ bs) = all_three (decide_letter b) (decide_all IsNameByte decide_name_byte bs) (decide_lt (length bs) MAX_NAME)
+decide_declared (b ∷ bs) = all_three (decide_letter b)
+    (decide_all IsNameByte decide_name_byte bs) (decide_lt (length bs) MAX_NAME)
 
 -- a number below a bound
 decide_decimal : (word : List ℕ) (bound : ℕ) → Decided ((n : ℕ) × (n < bound) × (word ≡ decimal n))
