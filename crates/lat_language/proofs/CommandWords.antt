@@ -1,6 +1,6 @@
 -- Words spell a command exactly where that command is read from them.
 use Rattle.std.proofs.Common.{◌≡◌, ℕ, ◌^◌, Option, Some, None, List, [], ◌∷◌, map, sym, refl, ap, ◌∙◌, subst, inl, inr, lit≤}
-use Rattle.std.specs.Prelude.{codes, option_and_then, find, cond}
+use Rattle.std.specs.Prelude.{◌↔◌, codes, MatchOption, option_and_then, find, cond}
 use Rattle.std.specs.Str.{bytes_eq}
 use Rattle.std.specs.List.{AllByRecursion}
 use Rattle.std.proofs.lemmas.Bool.{cases_Bool}
@@ -305,6 +305,17 @@ pub none_read : (words : List (List ℕ)) (c : Command) → command_of words ≡
 none_read words c none h =
     let e : ◌≡◌ {A = Option Command} None (Some c) = sym none ∙ spelled_read words c h in
     cc
+
+-- a command is read just where it is spelled
+pub read_iff : (words : List (List ℕ)) (c : Command)
+    → (command_of words ≡ Some c) ↔ SpellsCommand words c
+read_iff words c = (read_spelled words c, spelled_read words c)
+
+-- what is read is spelled, or nothing is read, and nothing is spelled
+pub command_read : (words : List (List ℕ)) (r : Option Command) → r ≡ command_of words
+    → MatchOption r ((c : Command) → ¬ (SpellsCommand words c)) (SpellsCommand words)
+command_read words (Some c) e = read_spelled words c (sym e)
+command_read words None e = λ c h. none_read words c (sym e) h
 
 -- words are those of some command, or of none
 pub decide_command : (words : List (List ℕ)) → Decided ((c : Command) × SpellsCommand words c)

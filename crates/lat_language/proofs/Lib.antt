@@ -4,3 +4,12 @@ pub mod ReadWords
 pub mod CommandWords
 pub mod LineMeanings
 pub mod OneMeaning
+pub mod SomeMeaning
+pub mod SessionPlaces
+pub mod ParsedLines
+pub mod PrintableBytes
+pub mod AppendedTexts
+pub mod PrintedLines
+pub mod PrintedCommands
+pub mod SpelledScripts
+pub mod PrintedScripts

@@ -10,7 +10,7 @@ use Rattle.lat_language.specs.PrivateCoefficients.{split_cons}
 use Rattle.lat_language.specs.PrivateCuts.{IsFirstPart, IsCutAt}
 
 -- the first line
-lines_cons : (line : List ℕ) (parts : List (List ℕ)) → 0 < length parts
+pub lines_cons : (line : List ℕ) (parts : List (List ℕ)) → 0 < length parts
     → lines_of_parts (line ∷ parts) ≡ line ∷ lines_of_parts parts
 lines_cons line [] h = absurd (omega arith)
 lines_cons line (next ∷ more) h = refl

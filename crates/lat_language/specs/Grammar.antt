@@ -10,7 +10,8 @@
 --     Means state n lines read     what lines say, from line n on, after what the state holds
 --     Spells bytes script          the bytes spell the script
 --     FirstBad bytes n kind        line n is the first bad one, and kind is its fault
-use Rattle.std.specs.Prelude.{◌≡◌, ◌⊎◌, ℕ, ◌+◌, ◌<◌, ◌≤◌, ◌==◌, Bool, true, false, not, nat_lt, if◌then◌else◌, List, [], ◌∷◌, ◌++◌, length, map, filter, find, sum_by, All, Contains, codes, Option, IfSome, Result, Ok, Err, MatchResult}
+--     LeadsToScript bytes          some first lines spell a script, and a line follows
+use Rattle.std.specs.Prelude.{◌≡◌, ◌⊎◌, ℕ, ◌+◌, ◌<◌, ◌≤◌, ◌==◌, Bool, true, false, not, nat_lt, if◌then◌else◌, List, [], ◌∷◌, ◌++◌, length, map, filter, find, take, sum_by, All, Contains, codes, Option, IfSome, Result, Ok, Err, MatchResult}
 use Rattle.std.specs.List.{slice_split, position_or_len}
 use Rattle.std.specs.Str.{bytes_eq}
 use Rattle.lat_core.specs.Names.{IsDeclaredName}
@@ -206,3 +207,8 @@ Spells bytes script = Means at_start 1 (lines_of bytes) (Ok script)
 
 abbrev pub FirstBad : List ℕ → ℕ → ℕ → Type 0
 FirstBad bytes n kind = Means at_start 1 (lines_of bytes) (Err (n, kind))
+
+-- some number of lines, from the first on, spell a script, and one more line follows
+abbrev pub LeadsToScript : List ℕ → Type 0
+LeadsToScript bytes = (count : ℕ) × (script : Script) × (count < length (lines_of bytes))
+    × Means at_start 1 (take count (lines_of bytes)) (Ok script)

@@ -1,8 +1,11 @@
 pub mod Commands
 pub mod Grammar
 pub mod Texts
+pub mod CanonicalText
 pub mod Theorems
 pub mod PrivateCuts
 pub mod PrivateCoefficients
 pub mod PrivateDecisions
 pub mod PrivateReading
+pub mod PrivateParsing
+pub mod PrivateAppending

@@ -1,18 +1,29 @@
 //! Laws of the script language: functions that do nothing, whose clauses are the laws.
 
-ghost use Rattle.lat_language.specs.Theorems.{OneScript, OneFault, NeverBoth, OneCommand, Limits, FaultKinds};
+ghost use Rattle.lat_language.specs.Theorems.{OneScript, OneFault, NeverBoth, ScriptOrFault, OneCommand, PrintableLines, CanonicalSpells, Limits, FaultKinds};
 
-/// Bytes have one reading: they spell at most one script, or have at most one first fault, and
-/// never both.
+/// Bytes have one reading: they spell one script, or have one first fault, and never both.
 pub fn one_reading()
     ensures scripts { OneScript }
     ensures faults { OneFault }
     ensures never_both { NeverBoth }
+    ensures some { ScriptOrFault }
 {}
 
 /// The words of a line spell at most one command.
 pub fn one_command()
     ensures commands { OneCommand }
+{}
+
+/// The canonical text of a script that some bytes spell spells that script.
+pub fn canonical_reading()
+    ensures spells { CanonicalSpells }
+{}
+
+/// A line that is the header, a command, a `session` line or a `schedule` line holds bytes from 32
+/// to 126 only.
+pub fn printable_lines()
+    ensures lines { PrintableLines }
 {}
 
 /// The limits of the language and the kinds of fault, as numbers.

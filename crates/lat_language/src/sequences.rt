@@ -1,7 +1,10 @@
 //! Things in their order.
 
-ghost use Rattle.std.specs.Prelude.{◌≡◌, [], ◌∷◌, ◌++◌, OnOk, OnErr};
+ghost use Rattle.std.specs.Prelude.{◌≡◌, [], ◌∷◌, ◌++◌, ◌<◌, length, OnOk, OnErr};
+ghost use Rattle.lat_language.specs.Grammar.{add_to_last};
 
+use crate::commands::Command;
+use crate::scripts::SessionScript;
 use lat_core::NoMemory;
 use std::alloc::Global;
 use std::marker::Model;
@@ -45,5 +48,18 @@ impl<T: Drop> Sequence<T> {
     {
         self.items.push(item)?;
         Ok(())
+    }
+}
+
+impl Sequence<SessionScript> {
+    // Adds a command to the last session. Where memory is refused the sessions are as before.
+    pub(crate) fn push_command(&mut self, command: Command) -> Result<(), NoMemory>
+        requires { 0 < length self.old }
+        ensures ok { OnOk result (self.new ≡ add_to_last self.old command) }
+        ensures err { OnErr result (self.new ≡ self.old) }
+    {
+        let last = self.items.len() - 1;
+        let session = &mut self.items[last];
+        session.commands.push(command)
     }
 }
