@@ -1,0 +1,5 @@
+pub mod DrawnNumbers
+pub mod FieldNames
+pub mod GeneratedCommands
+pub mod GeneratedScripts
+pub mod GeneratedTexts
