@@ -22,7 +22,7 @@ use Rattle.lat_core.specs.Answers.HasCommon.{first, second, other, none}
 use Rattle.lat_core.specs.Answers.HasMeet.{first_not_embedded, second_not_embedded, meet}
 use Rattle.lat_core.specs.Answers.HasMinimalOver.{minimal, not_embedded as no_subfield}
 use Rattle.lat_core.specs.Answers.Answers.{field_named, field_number, map, lift, common, meets, subfields, minimal_polynomial, minimal_over, count}
-use Rattle.lat_session.specs.declared.commands.Command.{Command}
+use Rattle.lat_language.specs.declared.commands.Command.{Command}
 use Rattle.lat_session.specs.Variables.{Variables, IsVariable, AreVariables}
 use Rattle.lat_session.specs.Commands.{operands, field_words}
 use Rattle.lat_session.specs.Outcomes.{IsFirstUnknown, IsFieldWord, Asks, Operations, HasOutcome}

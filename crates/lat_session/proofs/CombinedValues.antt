@@ -1,16 +1,15 @@
 -- Values in other fields, and what is computed there.
 use Rattle.std.proofs.Common.{◌≡◌, ℕ, zero, suc, ◌<◌, List, [], ◌∷◌, length, slice_index_or, refl, sym, ap, ◌∙◌, subst, arith}
-use Rattle.std.specs.Prelude.{Ok, Err, slice_index, Contains}
-use Rattle.alg_model.specs.Coefficients.{Ops, IsPrime}
+use Rattle.std.specs.Prelude.{Ok, Err, slice_index}
+use Rattle.alg_model.specs.Coefficients.{Ops}
 use Rattle.alg_model.specs.Maps.{Field, IsFiniteField, field_values, apply, constant, IsEmbedding}
 use Rattle.alg_model.specs.Conjugates.{trace, norm}
-use Rattle.alg_model.specs.Lattices.{Lattice, field_at, Stored, IsCompatible}
-use Rattle.alg_galois.proofs.Fields.{IsModulus, modulus_of, field_of, of_residue}
+use Rattle.alg_model.specs.Lattices.{Lattice, field_at, IsCompatible}
+use Rattle.alg_galois.proofs.Fields.{modulus_of, of_residue}
 use Rattle.alg_galois.proofs.FieldEmbeddings.{function_homomorphism, keeps_constants}
 use Rattle.alg_galois.proofs.Embeddings.{of_two_fields}
 use Rattle.lat_core.specs.declared.tagged.Tagged.{Tagged}
-use Rattle.lat_core.specs.declared.questions.CoerceFault.{CoerceFault}
-use Rattle.lat_core.specs.declared.questions.Answer.TheVariants.{Is, Lifted, Refused}
+use Rattle.lat_core.specs.declared.questions.Answer.TheVariants.{Is, Lifted}
 use Rattle.lat_core.specs.declared.outcomes.SessionRefusal.{SessionRefusal}
 use Rattle.lat_core.specs.declared.outcomes.SessionRefusal.TheVariants.{UnknownField, UnknownVariable}
 use Rattle.lat_core.specs.Histories.{Knowledge}
@@ -19,14 +18,13 @@ use Rattle.lat_core.specs.Answers.{IsTaggedValue, IsStoredPair, IsCommon, LiftsT
 use Rattle.lat_core.specs.Answers.LiftsTo.{up, down, not_in_image, not_embedded}
 use Rattle.lat_core.specs.Answers.HasCommon.{first, second, other}
 use Rattle.lat_session.specs.declared.pairs.Pair.{Pair}
-use Rattle.lat_session.specs.declared.commands.Command.TheVariants.{Add, Mul, Lift, Trace, Norm}
+use Rattle.lat_language.specs.declared.commands.Command.TheVariants.{Add, Mul, Lift, Trace, Norm}
 use Rattle.lat_session.specs.Variables.{Variables, Holds, IsVariable, AreVariables}
-use Rattle.lat_session.specs.Outcomes.{IsFieldWord, tagged, Computed, Combines, IsInPrimeField, Lifts, Operations, Computes}
+use Rattle.lat_session.specs.Outcomes.{IsFieldWord, tagged, Computed, Combines, IsInPrimeField, Lifts, Operations}
 use Rattle.lat_session.specs.Outcomes.IsFirstUnknown.{here, later}
 use Rattle.lat_session.specs.Outcomes.Combines.{no_common_field, value as combined}
 use Rattle.lat_session.specs.Outcomes.Lifts.{not_lifted, value as lifted}
 use Rattle.lat_session.specs.Outcomes.Computes.{of_add, of_mul, of_trace, of_norm, of_lift}
-use Rattle.lat_session.specs.Playing.{IsSeen}
 use Rattle.lat_session.specs.PrivatePlaying.{OverSeen, Results, ComesTo}
 use Rattle.lat_session.specs.PrivatePlaying.IsUnknown.{variable, field as unknown_word}
 use Rattle.lat_session.specs.PrivatePlaying.Results.{unknown as unknown_name, computed}
@@ -187,7 +185,7 @@ constant_kept E F V W m D = of_two_fields
     E F V W D.same_characteristic D
 
 -- a residue as a value of the prime field
-residue_in_prime : {L : Lattice} {i q : ℕ} {v : List ℕ} → IsCompatible L → IsPrimeFieldOf L i q
+pub residue_in_prime : {L : Lattice} {i q : ℕ} {v : List ℕ} → IsCompatible L → IsPrimeFieldOf L i q
     → (c : ℕ) → c < (field_at L.rows i).characteristic → constant (field_at L.rows i) c ≡ v
     → IsInPrimeField L i v (tagged q (constant (field_at L.rows q) c))
 residue_in_prime {L} {i} {q} C P c small e =

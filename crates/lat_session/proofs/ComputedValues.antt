@@ -1,23 +1,24 @@
 -- What the parts of a command that computes with one value have come to.
-use Rattle.std.proofs.Common.{◌≡◌, ℕ, List, [], ◌∷◌, refl, sym, ap, ◌∙◌, subst, Option, Some, None}
+use Rattle.std.proofs.Common.{◌≡◌, ℕ, List, ◌∷◌, sym, ap, ◌∙◌, subst}
 use Rattle.std.specs.Prelude.{Ok, Err}
 use Rattle.alg_model.specs.Coefficients.{power}
 use Rattle.alg_model.specs.Maps.{Field, field_values}
-use Rattle.alg_model.specs.Lattices.{Lattice, field_at}
+use Rattle.alg_model.specs.Lattices.{field_at}
 use Rattle.lat_core.specs.declared.tagged.Tagged.{Tagged}
 use Rattle.lat_core.specs.declared.outcomes.SessionRefusal.{SessionRefusal}
 use Rattle.lat_core.specs.declared.outcomes.SessionRefusal.TheVariants.{UnknownVariable, ZeroInverse}
 use Rattle.lat_core.specs.Histories.{Knowledge}
-use Rattle.lat_session.specs.declared.commands.Command.{Command}
-use Rattle.lat_session.specs.declared.commands.Command.TheVariants.{Inv, Pow, Frob}
+use Rattle.lat_language.specs.declared.commands.Op.{Op}
+use Rattle.lat_language.specs.declared.commands.Command.{Command}
+use Rattle.lat_language.specs.declared.commands.Command.TheVariants.{Inv, Pow, Frob, Apply}
 use Rattle.lat_session.specs.Variables.{Variables, Holds, IsVariable}
 use Rattle.lat_session.specs.Commands.{operands}
-use Rattle.lat_session.specs.Outcomes.{IsFirstUnknown, tagged, Computes, Inverts}
+use Rattle.lat_session.specs.Outcomes.{IsFirstUnknown, tagged, Operations, Computes}
 use Rattle.lat_session.specs.Outcomes.IsFirstUnknown.{here}
 use Rattle.lat_session.specs.Outcomes.Inverts.{zero as no_inverse, value as inverted}
-use Rattle.lat_session.specs.Outcomes.Computes.{of_inv, of_pow, of_frob}
-use Rattle.lat_session.specs.Playing.{IsSeen, FitSeen}
-use Rattle.lat_session.specs.PrivatePlaying.{OverSeen, Results, ComesTo}
+use Rattle.lat_session.specs.Outcomes.Computes.{of_inv, of_pow, of_frob, of_apply}
+use Rattle.lat_session.specs.Playing.{FitSeen}
+use Rattle.lat_session.specs.PrivatePlaying.{OverSeen, Results, ComesBy, ComesTo}
 use Rattle.lat_session.specs.PrivatePlaying.IsUnknown.{variable}
 use Rattle.lat_session.specs.PrivatePlaying.Results.{unknown, computed}
 
@@ -50,6 +51,12 @@ module _ (k : Knowledge) (variables : Variables) (value : List ℕ) (t : Tagged)
   comes_frobenius made = λ operations name L s. computed
       (subst (λ w. Computes operations L variables (Frob name value) (Ok (tagged t.field w)))
       (sym (made ∙ ap (λ G. power (field_values G).ops t.value G.characteristic) (is L s))) (of_frob h))
+
+  pub comes_apply : (operations : Operations) (op : Op) → v ≡ operations op K t.value
+      → ComesBy operations k variables (λ name. Apply name op value) (Ok (tagged t.field v))
+  comes_apply operations op made = λ name L s. computed
+      (subst (λ w. Computes operations L variables (Apply name op value) (Ok (tagged t.field w)))
+      (sym (made ∙ ap (λ G. operations op G t.value) (is L s))) (of_apply h))
 
   pub comes_inverse : (field_values K).Valid v
       → (field_values K).ops.mul t.value v ≡ (field_values K).ops.one

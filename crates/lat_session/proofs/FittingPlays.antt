@@ -1,5 +1,5 @@
 -- The variables fit the lattice that is seen after each command.
-use Rattle.std.proofs.Common.{◌≡◌, ℕ, List, [], ◌∷◌, ◌++◌, refl, sym, ap, ◌∙◌, subst, append_assoc}
+use Rattle.std.proofs.Common.{◌≡◌, ℕ, List, [], ◌∷◌, ◌++◌, sym, ap, ◌∙◌, subst, append_assoc}
 use Rattle.std.proofs.lemmas.List.{append-nil}
 use Rattle.alg_model.specs.Lattices as lattices
 use Rattle.alg_model.specs.Lattices.{Lattice, Grows, IsEdition, IsCompatible}
@@ -7,11 +7,11 @@ use Rattle.lat_core.specs.declared.requests.Request.{Request}
 use Rattle.lat_core.specs.declared.replies.Reply.{Reply}
 use Rattle.lat_core.specs.declared.replies.Entry.{Entry}
 use Rattle.lat_core.specs.declared.outcomes.Line.{Line}
-use Rattle.lat_core.specs.Histories.{Leads, IsAfter, Knowledge, IsKnowledge, IsPlaced, IsUnplaced}
+use Rattle.lat_core.specs.Histories.{IsAfter, Knowledge, IsKnowledge, IsPlaced, IsUnplaced}
 use Rattle.lat_core.proofs.HistoryLaws.{leads_split, leads_keeps, history_one, history_keeps}
-use Rattle.lat_session.specs.declared.commands.Command.{Command}
+use Rattle.lat_language.specs.declared.commands.Command.{Command}
 use Rattle.lat_session.specs.Variables.{Variables, AreVariables}
-use Rattle.lat_session.specs.Outcomes.{Operations}
+use Rattle.lat_session.specs.Outcomes.{Operations, KeepsValues}
 use Rattle.lat_session.specs.Playing.{IsSeen, FitSeen, PlaysOver}
 use Rattle.lat_session.specs.Playing.PlaysOver.{change, full, read}
 use Rattle.lat_session.specs.PrivatePlaying.{SomeSeen, OverSeen}
@@ -75,14 +75,15 @@ fit_unplaced {old} {new} F N u = fit_later [] F N u.same.edition (u.seen ∙ sym
 
 -- **after each command**
 pub fit_after : {operations : Operations} {old new : Knowledge} {variables after : Variables}
-    {command : Command} {line : Line} → FitSeen old variables → IsKnowledge old → IsKnowledge new
+    {command : Command} {line : Line} → KeepsValues operations → FitSeen old variables
+    → IsKnowledge old → IsKnowledge new
     → PlaysOver operations old variables command new after line → FitSeen new after
-fit_after F K N (change r p) = fit_placed F K N p
-fit_after F K N (full r u b) = fit_unplaced F N u
-fit_after {old = old} {after = after} F K N (read {L = L} none same a outcome) =
+fit_after keeps F K N (change r p) = fit_placed F K N p
+fit_after keeps F K N (full r u b) = fit_unplaced F N u
+fit_after {old = old} {after = after} keeps F K N (read {L = L} none same a outcome) =
     let seen : IsSeen old L = record { edition = F.seen.edition; after = a } in
     subst (λ k. FitSeen k after) (sym same) (record {
       lattice = L;
       seen = seen;
-      fit = outcome_fits (seen_compatible seen) (fit_over F seen) outcome;
+      fit = outcome_fits keeps (seen_compatible seen) (fit_over F seen) outcome;
     })

@@ -1,5 +1,5 @@
 -- What a command computes is a value of the lattice, so that the variables fit it again.
-use Rattle.std.proofs.Common.{◌≡◌, ◌⊎◌, inl, inr, ⊎_elim, ℕ, zero, suc, ◌+◌, ◌-◌, ◌<◌, ◌≤◌, List, ◌++◌, length, take, replicate, refl, sym, ap, ◌∙◌, subst, cond, true, false, Bool, Option, Some, None, is_some, slice_index_or, arith, length-append, length-take, get_or-take}
+use Rattle.std.proofs.Common.{◌≡◌, ◌⊎◌, inl, inr, ⊎_elim, ℕ, zero, suc, ◌+◌, ◌-◌, ◌<◌, ◌≤◌, List, length, replicate, refl, sym, ap, ◌∙◌, subst, cond, true, false, Bool, Option, Some, is_some, slice_index_or, arith, length-append, length-take, get_or-take}
 use Rattle.std.specs.Prelude.{All, Ok}
 use Rattle.std.proofs.lemmas.List.{length-replicate}
 use Rattle.std.proofs.lemmas.List.Elements.{All-append, All-replicate}
@@ -17,17 +17,18 @@ use Rattle.alg_galois.proofs.Embeddings.{apply_valid}
 use Rattle.lat_core.specs.declared.tagged.Tagged.{Tagged}
 use Rattle.lat_core.specs.declared.outcomes.Outcome.{Outcome}
 use Rattle.lat_core.specs.declared.questions.Answer.TheVariants.{Lifted}
-use Rattle.lat_core.specs.Answers.{IsTaggedValue, IsSentTo, LiftsTo}
+use Rattle.lat_core.specs.Answers.{IsTaggedValue, LiftsTo}
 use Rattle.lat_core.specs.Answers.LiftsTo.{up, down}
-use Rattle.lat_session.specs.declared.commands.Command.{Command}
+use Rattle.lat_language.specs.declared.commands.Command.{Command}
 use Rattle.lat_session.specs.declared.TheConstants.{MAX_VARIABLES}
-use Rattle.lat_session.specs.Variables.{name_cmp, Variables, Holds, IsVariable, IsFullFor, AreVariables}
-use Rattle.lat_session.specs.Outcomes.{tagged, Reads, Combines, Inverts, IsInPrimeField, Lifts, Operations, Computes, HasOutcome}
+use Rattle.lat_session.specs.Variables.{name_cmp, Variables, IsVariable, IsFullFor, AreVariables}
+use Rattle.lat_session.specs.Outcomes.{tagged, Reads, Combines, Inverts, IsInPrimeField, Lifts, Operations, KeepsValues, Computes, HasOutcome}
 use Rattle.lat_session.specs.Outcomes.Reads.{value as digits_value}
 use Rattle.lat_session.specs.Outcomes.Combines.{value as combined}
 use Rattle.lat_session.specs.Outcomes.Inverts.{value as inverted}
 use Rattle.lat_session.specs.Outcomes.Lifts.{value as lifted}
-use Rattle.lat_session.specs.Outcomes.Computes.{of_let, of_add, of_mul, of_inv, of_pow, of_frob, of_trace, of_norm, of_lift}
+use Rattle.lat_session.specs.Outcomes.Computes.{of_let, of_add, of_mul, of_inv, of_pow, of_frob, of_trace, of_norm, of_lift, of_apply}
+use Rattle.lat_session.specs.Theorems.{OutcomeKeepsVariables}
 use Rattle.lat_session.specs.Outcomes.HasOutcome.{unknown_variable, unknown_field, asked, shown, refused, full, stored}
 
 power_valid : {A : Type 0} {c : Carrier A} → IsRing c → (a : A) → c.Valid a → (n : ℕ)
@@ -99,19 +100,21 @@ module _ {L : Lattice} (C : IsCompatible L) where
   in_field t v T h = record { tag = T.tag; value = h }
 
   pub computed_value : {operations : Operations} {variables : Variables} {command : Command}
-      {t : Tagged} → AreVariables L variables → Computes operations L variables command (Ok t)
-      → IsTaggedValue L t
-  computed_value V (of_let named r) = reads_value named.within r
-  computed_value V (of_add h k c) = combines_value (λ K v w R. R.add_valid v w) (V.values h) (V.values k) c
-  computed_value V (of_mul h k c) = combines_value (λ K v w R. R.mul_valid v w) (V.values h) (V.values k) c
-  computed_value V (of_inv h i) = inverts_value (V.values h) i
-  computed_value V (of_pow {t = t} {exponent = n} h) = in_field t (power (field_values (field_at L.rows t.field)).ops t.value n) (V.values h)
+      {t : Tagged} → KeepsValues operations → AreVariables L variables
+      → Computes operations L variables command (Ok t) → IsTaggedValue L t
+  computed_value keeps V (of_let named r) = reads_value named.within r
+  computed_value keeps V (of_add h k c) = combines_value (λ K v w R. R.add_valid v w) (V.values h) (V.values k) c
+  computed_value keeps V (of_mul h k c) = combines_value (λ K v w R. R.mul_valid v w) (V.values h) (V.values k) c
+  computed_value keeps V (of_inv h i) = inverts_value (V.values h) i
+  computed_value keeps V (of_pow {t = t} {exponent = n} h) = in_field t (power (field_values (field_at L.rows t.field)).ops t.value n) (V.values h)
       (power_valid (ring t.field (V.values h).tag) t.value (V.values h).value n)
-  computed_value V (of_frob {t = t} h) = in_field t (power (field_values (field_at L.rows t.field)).ops t.value (field_at L.rows t.field).characteristic) (V.values h)
+  computed_value keeps V (of_frob {t = t} h) = in_field t (power (field_values (field_at L.rows t.field)).ops t.value (field_at L.rows t.field).characteristic) (V.values h)
       (power_valid (ring t.field (V.values h).tag) t.value (V.values h).value (field_at L.rows t.field).characteristic)
-  computed_value V (of_trace h p) = prime_value p
-  computed_value V (of_norm h p) = prime_value p
-  computed_value V (of_lift h named l) = lifts_value (V.values h) l
+  computed_value keeps V (of_trace h p) = prime_value p
+  computed_value keeps V (of_norm h p) = prime_value p
+  computed_value keeps V (of_lift h named l) = lifts_value (V.values h) l
+  computed_value keeps V (of_apply {op = op} {t = t} h) = in_field t _ (V.values h)
+      (keeps op (field_at L.rows t.field) t.value (finite t.field (V.values h).tag) (V.values h).value)
 
 -- ---- the variables afterwards
 -- what is found once t is set
@@ -146,15 +149,20 @@ set_fits {L} {variables} {t} {name} V T free = record {
 
 -- **after an outcome they are variables again**
 pub outcome_fits : {operations : Operations} {L : Lattice} {variables after : Variables}
-    {command : Command} {outcome : Outcome} → IsCompatible L → AreVariables L variables
-    → HasOutcome operations L variables command outcome after → AreVariables L after
-outcome_fits C V (unknown_variable h) = V
-outcome_fits C V (unknown_field known h) = V
-outcome_fits C V (asked q a s) = V
-outcome_fits C V (shown e h) = V
-outcome_fits C V (refused c) = V
-outcome_fits C V (full c n f) = V
-outcome_fits C V (stored c n free) = set_fits V (computed_value C V c) free
+    {command : Command} {outcome : Outcome} → KeepsValues operations → IsCompatible L
+    → AreVariables L variables → HasOutcome operations L variables command outcome after
+    → AreVariables L after
+outcome_fits keeps C V (unknown_variable h) = V
+outcome_fits keeps C V (unknown_field known h) = V
+outcome_fits keeps C V (asked q a s) = V
+outcome_fits keeps C V (shown e h) = V
+outcome_fits keeps C V (refused c) = V
+outcome_fits keeps C V (full c n f) = V
+outcome_fits keeps C V (stored c n free) = set_fits V (computed_value C keeps V c) free
+
+pub outcome_keeps_variables : OutcomeKeepsVariables
+outcome_keeps_variables operations L variables after command outcome keeps C V h =
+    outcome_fits keeps C V h
 
 -- and in each lattice that grows from this one
 row_kept : {L M : Lattice} (i : ℕ) → Grows L M → i < length L.rows

@@ -7,3 +7,6 @@ pub mod FittingValues
 pub mod FittingPlays
 pub mod CombinedValues
 pub mod PlayedLines
+pub mod KeptValues
+pub mod OneOutcome
+pub mod SomeOutcome

@@ -1,23 +1,22 @@
 -- What each kind of command does to what is known and to the variables.
-use Rattle.std.proofs.Common.{◌≡◌, ℕ, List, [], refl, sym, ap, ◌∙◌, subst, Some, None, true}
+use Rattle.std.proofs.Common.{◌≡◌, ℕ, List, [], refl, sym, subst, Some, None}
 use Rattle.std.specs.Prelude.{Result, Ok, Err, IfOk, OnErr}
 use Rattle.std.proofs.lemmas.List.{append-nil}
 use Rattle.alg_model.specs.Lattices.{Lattice, IsCompatible}
 use Rattle.lat_core.specs.declared.memory.NoMemory.{NoMemory}
-use Rattle.lat_core.specs.declared.tagged.Tagged.{Tagged}
 use Rattle.lat_core.specs.declared.requests.Request.{Request}
 use Rattle.lat_core.specs.declared.questions.Question.{Question}
 use Rattle.lat_core.specs.declared.outcomes.Line.{Line}
 use Rattle.lat_core.specs.declared.outcomes.SessionRefusal.{SessionRefusal}
 use Rattle.lat_core.specs.Histories.{Knowledge, IsKnowledge, IsUnplaced}
 use Rattle.lat_core.specs.Answers.{IsNumber}
-use Rattle.lat_session.specs.declared.commands.Command.{Command}
-use Rattle.lat_session.specs.declared.commands.Command.TheVariants.{EmbedSending}
+use Rattle.lat_language.specs.declared.commands.Command.{Command}
+use Rattle.lat_language.specs.declared.commands.Command.TheVariants.{EmbedSending}
 use Rattle.lat_session.specs.Variables.{Variables, AreVariables}
 use Rattle.lat_session.specs.Commands.{request_of, result_name}
-use Rattle.lat_session.specs.Outcomes.{Computed, Operations}
+use Rattle.lat_session.specs.Outcomes.{Computed, Operations, KeepsValues}
 use Rattle.lat_session.specs.Playing.{FitSeen, PlaysOver}
-use Rattle.lat_session.specs.PrivatePlaying.{OverSeen, SomeSeen, Results, Questions, ChangesTo, Embeds, KeepsTo, PlaysAs, AsksTo, IsAnsweredBy, IsPlayed}
+use Rattle.lat_session.specs.PrivatePlaying.{OverSeen, Results, Questions, ChangesTo, Embeds, KeepsTo, PlaysAs, AsksTo, IsAnsweredBy, IsPlayed}
 use Rattle.lat_session.specs.PrivatePlaying.Results.{computed}
 use Rattle.lat_session.proofs.FittingValues.{computed_value}
 use Rattle.lat_session.proofs.FittingPlays.{fit_after, fit_unplaced}
@@ -33,39 +32,45 @@ unplaced_itself k = record {
 }
 
 -- ---- a change
-pub played_change : {old new : Knowledge} {variables : Variables} {command : Command}
-    {request : Request} {before now : List ℕ} (result : Result Line NoMemory)
+pub played_change : {operations : Operations} {old new : Knowledge} {variables : Variables}
+    {command : Command} {request : Request} {before now : List ℕ} (result : Result Line NoMemory)
     → request_of variables command ≡ Some request → IfOk result (ChangesTo old request new)
     → OnErr result (IsUnplaced old new) → IsKnowledge new → now ≡ before
-    → IsPlayed old variables command new variables before now result
-played_change {variables = variables} {command = command} (Ok line) asks h u K b = record {
-  answered = λ operations. h operations variables command asks;
+    → IsPlayed operations old variables command new variables before now result
+played_change {operations} {variables = variables} {command = command} (Ok line) asks h u K b = record {
+  answered = h operations variables command asks;
   known = K;
   borrowed = b;
 }
 played_change (Err e) asks h u K b = record { answered = (u, refl); known = K; borrowed = b }
 
-pub played_embedding : {old new : Knowledge} {variables : Variables} {from into value image : List ℕ}
-    {before now : List ℕ} (result : Result Line NoMemory)
+pub played_embedding : {operations : Operations} {old new : Knowledge} {variables : Variables}
+    {from into value image : List ℕ} {before now : List ℕ} (result : Result Line NoMemory)
     → IfOk result (Embeds old variables from into value image new)
     → OnErr result (IsUnplaced old new) → IsKnowledge new → now ≡ before
-    → IsPlayed old variables (EmbedSending from into value image) new variables before now result
-played_embedding (Ok line) h u K b = record { answered = h; known = K; borrowed = b }
+    → IsPlayed operations old variables (EmbedSending from into value image) new variables before now
+    result
+played_embedding {operations} (Ok line) h u K b = record {
+  answered = h operations;
+  known = K;
+  borrowed = b;
+}
 played_embedding (Err e) h u K b = record { answered = (u, refl); known = K; borrowed = b }
 
 -- ---- a result that is stored
-pub played_result : {k : Knowledge} {variables after : Variables} {name : List ℕ} {value : Computed}
-    (command : Command) (borrows : List ℕ) (result : Result Line NoMemory)
+pub played_result : {operations : Operations} {k : Knowledge} {variables after : Variables}
+    {name : List ℕ} {value : Computed} (command : Command) (borrows : List ℕ)
+    (result : Result Line NoMemory)
     → IsKnowledge k → request_of variables command ≡ None → result_name command ≡ Some name
-    → ((operations : Operations) → OverSeen k (λ L. Results operations L variables command value))
+    → OverSeen k (λ L. Results operations L variables command value)
     → IfOk result (KeepsTo k variables name value after) → OnErr result (after ≡ variables)
-    → IsPlayed k variables command k after borrows borrows result
-played_result command borrows (Ok line) K none named results h e = record {
-  answered = λ operations. h operations command none named (results operations);
+    → IsPlayed operations k variables command k after borrows borrows result
+played_result {operations} command borrows (Ok line) K none named results h e = record {
+  answered = h operations command none named results;
   known = K;
   borrowed = refl;
 }
-played_result {k} command borrows (Err x) K none named results h e = record {
+played_result {k = k} command borrows (Err x) K none named results h e = record {
   answered = (unplaced_itself k, e);
   known = K;
   borrowed = refl;
@@ -73,46 +78,57 @@ played_result {k} command borrows (Err x) K none named results h e = record {
 
 -- what is stored has the number of a field
 pub results_number : {operations : Operations} {L : Lattice} {variables : Variables}
-    {command : Command} (value : Computed) → IsCompatible L → AreVariables L variables
-    → Results operations L variables command value → IfOk value (λ t. IsNumber L t.field)
-results_number (Ok t) C V (computed c) = (computed_value C V c).tag
-results_number (Err refusal) C V r = tt
+    {command : Command} (value : Computed) → KeepsValues operations → IsCompatible L
+    → AreVariables L variables → Results operations L variables command value
+    → IfOk value (λ t. IsNumber L t.field)
+results_number (Ok t) keeps C V (computed c) = (computed_value C keeps V c).tag
+results_number (Err refusal) keeps C V r = tt
 
 -- ---- what is only asked or shown
-pub played_question : {k : Knowledge} {variables : Variables}
+pub played_question : {operations : Operations} {k : Knowledge} {variables : Variables}
     {question : Result Question SessionRefusal} {line : Line} (command : Command) (borrows : List ℕ)
     → IsKnowledge k → request_of variables command ≡ None
     → OverSeen k (λ L. Questions L variables command question) → AsksTo k question line
-    → IsPlayed k variables command k variables borrows borrows (Ok line)
-played_question {variables = variables} command borrows K none questions h = record {
-  answered = λ operations. h operations variables command none questions;
+    → IsPlayed operations k variables command k variables borrows borrows (Ok line)
+played_question {operations} {variables = variables} command borrows K none questions h = record {
+  answered = h operations variables command none questions;
   known = K;
   borrowed = refl;
 }
 
-pub played_value : {k : Knowledge} {variables : Variables} {line : Line} (command : Command)
-    (borrows : List ℕ) → IsKnowledge k → PlaysAs k variables command variables line
-    → IsPlayed k variables command k variables borrows borrows (Ok line)
-played_value command borrows K h = record { answered = h; known = K; borrowed = refl }
+pub played_value : {operations : Operations} {k : Knowledge} {variables : Variables} {line : Line}
+    (command : Command) (borrows : List ℕ) → IsKnowledge k
+    → PlaysAs k variables command variables line
+    → IsPlayed operations k variables command k variables borrows borrows (Ok line)
+played_value {operations} command borrows K h = record {
+  answered = h operations;
+  known = K;
+  borrowed = refl;
+}
 
 -- ---- the clauses of a command
-module _ (old new : Knowledge) (variables after : Variables) (command : Command) where
-  pub line_played : (result : Result Line NoMemory) → IsAnsweredBy old variables command new after result
-      → IfOk result (λ line. (operations : Operations) → PlaysOver operations old variables command new after line)
+module _ (operations : Operations) (old new : Knowledge) (variables after : Variables)
+    (command : Command) where
+  pub line_played : (result : Result Line NoMemory)
+      → IsAnsweredBy operations old variables command new after result
+      → IfOk result (PlaysOver operations old variables command new after)
   line_played (Ok line) h = h
   line_played (Err e) h = tt
 
-  pub nothing_played : (result : Result Line NoMemory) → IsAnsweredBy old variables command new after result
+  pub nothing_played : (result : Result Line NoMemory)
+      → IsAnsweredBy operations old variables command new after result
       → OnErr result (IsUnplaced old new)
   nothing_played (Ok line) h = tt
   nothing_played (Err e) h = h.0
 
-  pub variables_kept : (result : Result Line NoMemory) → IsAnsweredBy old variables command new after result
+  pub variables_kept : (result : Result Line NoMemory)
+      → IsAnsweredBy operations old variables command new after result
       → OnErr result (after ≡ variables)
   variables_kept (Ok line) h = tt
   variables_kept (Err e) h = h.1
 
-  pub fit_played : (result : Result Line NoMemory) → FitSeen old variables → IsKnowledge old
-      → IsKnowledge new → IsAnsweredBy old variables command new after result → FitSeen new after
-  fit_played (Ok line) F K N h = fit_after F K N (h (λ operation field value. value))
-  fit_played (Err e) F K N h = subst (FitSeen new) (sym h.1) (fit_unplaced F N h.0)
+  pub fit_played : (result : Result Line NoMemory) → KeepsValues operations → FitSeen old variables
+      → IsKnowledge old → IsKnowledge new
+      → IsAnsweredBy operations old variables command new after result → FitSeen new after
+  fit_played (Ok line) keeps F K N h = fit_after keeps F K N h
+  fit_played (Err e) keeps F K N h = subst (FitSeen new) (sym h.1) (fit_unplaced F N h.0)

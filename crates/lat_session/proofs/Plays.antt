@@ -1,5 +1,5 @@
 -- The line of a command from what its parts have done.
-use Rattle.std.proofs.Common.{◌≡◌, ℕ, ◌<◌, ◌≤◌, List, [], ◌∷◌, length, refl, sym, ap, ◌∙◌, subst, Option, Some, None}
+use Rattle.std.proofs.Common.{◌≡◌, ℕ, ◌<◌, ◌≤◌, List, length, refl, sym, ap, ◌∙◌, subst, Option, Some, None}
 use Rattle.std.specs.Prelude.{Ok, Err, All}
 use Rattle.std.specs.Option.{option_map, option_and_then}
 use Rattle.std.specs.FinMap.{get, insert}
@@ -21,16 +21,16 @@ use Rattle.lat_core.specs.declared.outcomes.SessionRefusal.{SessionRefusal}
 use Rattle.lat_core.specs.declared.outcomes.SessionRefusal.TheVariants.{CoefficientTooLarge, UnknownField, UnknownVariable, TooManyVariables, TooManyCoefficients, HistoryFull}
 use Rattle.lat_core.specs.Step.{IsNamed}
 use Rattle.lat_core.specs.Histories.{Knowledge, IsPlaced, IsUnplaced, IsRefusedBy}
-use Rattle.lat_session.specs.declared.commands.Command.{Command}
-use Rattle.lat_session.specs.declared.commands.Command.TheVariants.{EmbedSending, Let, Show}
+use Rattle.lat_language.specs.declared.commands.Command.{Command}
+use Rattle.lat_language.specs.declared.commands.Command.TheVariants.{EmbedSending, Let, Show}
 use Rattle.lat_session.specs.Variables.{Variables, Holds, IsVariable, IsFullFor}
 use Rattle.lat_session.specs.Commands.{result_name}
-use Rattle.lat_session.specs.Outcomes.{IsFirstUnknown, IsFieldWord, name_at, tagged, Reads, Computed, Operations, HasOutcome}
+use Rattle.lat_session.specs.Outcomes.{IsFieldWord, name_at, tagged, Reads, Computed, Operations, HasOutcome}
 use Rattle.lat_session.specs.Outcomes.IsFirstUnknown.{here, later}
 use Rattle.lat_session.specs.Outcomes.Reads.{too_many, too_large, value as digits_value}
 use Rattle.lat_session.specs.Outcomes.Computes.{of_let}
 use Rattle.lat_session.specs.Outcomes.HasOutcome.{unknown_variable, unknown_field, shown, refused, full as no_room_for, stored}
-use Rattle.lat_session.specs.Playing.{IsSeen, PlaysOver}
+use Rattle.lat_session.specs.Playing.{IsSeen}
 use Rattle.lat_session.specs.Playing.PlaysOver.{change, full, read}
 use Rattle.lat_session.specs.PrivatePlaying.{OverSeen, Results, Sends, ComesTo, ChangesTo, Embeds, KeepsTo, PlaysAs}
 use Rattle.lat_session.specs.PrivatePlaying.IsUnknown.{variable, field}

@@ -1,17 +1,15 @@
 -- What the answer to a question is.
-use Rattle.std.proofs.Common.{◌≡◌, ℕ, List, refl, subst, sym}
+use Rattle.std.proofs.Common.{◌≡◌, ℕ, List, refl, subst}
 use Rattle.alg_model.specs.Maps.{Field}
 use Rattle.alg_model.specs.Lattices.{Lattice, field_at}
 use Rattle.lat_core.specs.declared.tagged.Tagged.{Tagged}
-use Rattle.lat_core.specs.declared.questions.Question.{Question}
-use Rattle.lat_core.specs.declared.questions.Question.TheVariants.{FieldNamed, FieldAt, Map, Lift, Common, Meet, Subfields, MinPoly, MinPolyOver, Count}
+use Rattle.lat_core.specs.declared.questions.Question.TheVariants.{FieldNamed, FieldAt, Lift, Common, Subfields}
 use Rattle.lat_core.specs.declared.questions.CoerceFault.{CoerceFault}
 use Rattle.lat_core.specs.declared.questions.Answer.{Answer}
-use Rattle.lat_core.specs.declared.questions.Answer.TheVariants.{Known, Unknown, Image, Lifted, Is, Numbers, Poly, RelPoly, Counted, Refused}
+use Rattle.lat_core.specs.declared.questions.Answer.TheVariants.{Known, Unknown, Lifted, Is, Numbers, Refused}
 use Rattle.lat_core.specs.Step.{IsNamed}
-use Rattle.lat_core.specs.Answers.{known_field, AnswersNamed, AnswersMap, LiftsTo, HasCommon, HasMeet, IsSubfields, HasMinimalOver, Answers}
+use Rattle.lat_core.specs.Answers.{known_field, LiftsTo, HasCommon, IsSubfields, Answers}
 use Rattle.lat_core.specs.Answers.AnswersNamed.{named, unknown}
-use Rattle.lat_core.specs.Answers.AnswersMap.{image, not_embedded as no_image}
 use Rattle.lat_core.specs.Answers.LiftsTo.{up, down, not_in_image, not_embedded}
 use Rattle.lat_core.specs.Answers.HasCommon.{first, second, other, none}
 use Rattle.lat_core.specs.Answers.Answers.{field_named, field_number, lift, common, subfields}

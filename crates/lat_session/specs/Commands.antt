@@ -7,14 +7,13 @@
 use Rattle.std.specs.Prelude.{ℕ, List, [], ◌∷◌, Option, Some, None}
 use Rattle.std.specs.Option.{option_map, option_and_then}
 use Rattle.std.specs.FinMap.{get}
-use Rattle.lat_core.specs.declared.tagged.Tagged.{Tagged}
 use Rattle.lat_core.specs.declared.tagged.Sending.{Sending}
 use Rattle.lat_core.specs.declared.requests.Request.{Request}
 use Rattle.lat_core.specs.declared.requests.Request.TheVariants as requests
 use Rattle.lat_core.specs.Names.{IsDeclaredName}
-use Rattle.lat_session.specs.declared.commands.Command.{Command}
-use Rattle.lat_session.specs.declared.commands.Command.TheVariants.{Field, Embed, EmbedSending, Sync, Let, Add, Mul, Inv, Pow, Frob, Trace, Norm, Lift, Show, Map, Meet, Common, MinPoly, MinPolyOver, Count}
-use Rattle.lat_session.specs.declared.commands.Command.TheVariants as commands
+use Rattle.lat_language.specs.declared.commands.Command.{Command}
+use Rattle.lat_language.specs.declared.commands.Command.TheVariants.{Field, Embed, EmbedSending, Sync, Let, Add, Mul, Inv, Pow, Frob, Trace, Norm, Lift, Apply, Show, Map, Meet, Common, MinPoly, MinPolyOver, Count}
+use Rattle.lat_language.specs.declared.commands.Command.TheVariants as commands
 use Rattle.lat_session.specs.Variables.{Variables}
 
 -- the variables that are read
@@ -28,6 +27,7 @@ operands (Frob result value) = value ∷ []
 operands (Trace result value) = value ∷ []
 operands (Norm result value) = value ∷ []
 operands (Lift result value to) = value ∷ []
+operands (Apply result op value) = value ∷ []
 operands (Show value) = value ∷ []
 operands (MinPoly value) = value ∷ []
 operands (MinPolyOver value over) = value ∷ []
@@ -55,6 +55,7 @@ result_name (Frob result value) = Some result
 result_name (Trace result value) = Some result
 result_name (Norm result value) = Some result
 result_name (Lift result value to) = Some result
+result_name (Apply result op value) = Some result
 result_name _ = None
 
 -- the values of two variables as a prescribed pair

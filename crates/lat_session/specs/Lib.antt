@@ -4,4 +4,5 @@ pub mod Playing
 pub mod PrivateCombining
 pub mod PrivatePlaying
 pub mod PrivateVariables
+pub mod Theorems
 pub mod Variables

@@ -5,16 +5,18 @@
 --     Reads, Combines, Inverts, Lifts       a value that is computed, or why there is none
 --     IsInPrimeField L i v c                c is the value v of field i, in the prime field
 --     Operations                            what the operations of a session are
+--     operations_of first second third      the operations of three tables
+--     KeepsValues operations                they give values of the field of their operand
 --     Computes operations L variables c computed     a command that stores: its value, or why it
 --                                           has none
 --     HasOutcome operations L variables c outcome new     the outcome, and the variables afterwards
-use Rattle.std.specs.Prelude.{◌≡◌, ℕ, ◌<◌, ◌≤◌, List, [], ◌∷◌, length, slice_index_or, All, Option, Some, Result, Ok, Err}
+use Rattle.std.specs.Prelude.{◌≡◌, ℕ, ◌<◌, ◌≤◌, List, ◌∷◌, length, slice_index_or, All, Some, Result, Ok, Err}
 use Rattle.std.specs.List.{AllByRecursion}
 use Rattle.std.specs.FinMap.{insert}
 use Rattle.alg_model.specs.Coefficients.{Ops, power, mod_ops}
 use Rattle.alg_model.specs.Values.{padded}
 use Rattle.alg_model.specs.Maps as maps
-use Rattle.alg_model.specs.Maps.{field_values, degree_of}
+use Rattle.alg_model.specs.Maps.{IsFiniteField, field_values, degree_of}
 use Rattle.alg_model.specs.Conjugates.{trace, norm}
 use Rattle.alg_model.specs.Lattices.{Lattice, no_row, field_at, Stored}
 use Rattle.ff_poly.specs.Polynomial.{Polynomial}
@@ -32,10 +34,12 @@ use Rattle.lat_core.specs.declared.outcomes.SessionRefusal.{SessionRefusal}
 use Rattle.lat_core.specs.declared.outcomes.SessionRefusal.TheVariants.{CoefficientTooLarge, UnknownField, NotEmbedded, NotInImage, NoCommonField, UnknownVariable, ZeroInverse, TooManyVariables, TooManyCoefficients}
 use Rattle.lat_core.specs.Step.{IsNamed}
 use Rattle.lat_core.specs.Answers.{IsSentTo, LiftsTo, HasCommon, Answers}
-use Rattle.lat_session.specs.declared.commands.Op.{Op}
-use Rattle.lat_session.specs.declared.commands.Command.{Command}
-use Rattle.lat_session.specs.declared.commands.Command.TheVariants.{Let, Add, Mul, Inv, Pow, Frob, Trace, Norm, Lift, Show, Map, Meet, Common, MinPoly, MinPolyOver, Count}
-use Rattle.lat_session.specs.declared.commands.Command.TheVariants as commands
+use Rattle.natural_ops.specs.Operations.{value_at}
+use Rattle.lat_language.specs.declared.commands.Op.{Op}
+use Rattle.lat_language.specs.declared.commands.Op.TheVariants.{First, Second, Third}
+use Rattle.lat_language.specs.declared.commands.Command.{Command}
+use Rattle.lat_language.specs.declared.commands.Command.TheVariants.{Let, Add, Mul, Inv, Pow, Frob, Trace, Norm, Lift, Apply, Show, Map, Meet, Common, MinPoly, MinPolyOver, Count}
+use Rattle.lat_language.specs.declared.commands.Command.TheVariants as commands
 use Rattle.lat_session.specs.Variables.{Variables, Holds, IsVariable, IsFullFor}
 use Rattle.lat_session.specs.Commands.{operands, field_words, result_name}
 
@@ -146,6 +150,17 @@ pub data Lifts (L : Lattice) (t : Tagged) (j : ℕ) : Computed → Type 0 where
 abbrev pub Operations : Type 0
 Operations = Op → maps.Field → List ℕ → List ℕ
 
+-- three tables of polynomials, by the names of the operations
+abbrev pub operations_of : List Polynomial → List Polynomial → List Polynomial → Operations
+operations_of first second third First = value_at first
+operations_of first second third Second = value_at second
+operations_of first second third Third = value_at third
+
+-- what an operation gives at a value of a field is a value of that field
+abbrev pub KeepsValues : Operations → Type 0
+KeepsValues operations = (op : Op) (K : maps.Field) (a : List ℕ) → IsFiniteField K
+    → (field_values K).Valid a → (field_values K).Valid (operations op K a)
+
 module _ (operations : Operations) where
   -- once all names are known
   pub data Computes (L : Lattice) (variables : Variables) : Command → Computed → Type 0 where
@@ -175,6 +190,9 @@ module _ (operations : Operations) where
     of_lift : {result value to : List ℕ} {t : Tagged} {j : ℕ} {computed : Computed}
         → Holds variables value t → IsNamed L j to → Lifts L t j computed
         → Computes L variables (Lift result value to) computed
+    of_apply : {result value : List ℕ} {op : Op} {t : Tagged} → Holds variables value t
+        → Computes L variables (Apply result op value) (Ok (tagged t.field
+        (operations op (field_at L.rows t.field) t.value)))
 
   -- The first operand that is no variable; else the first field word that names no field; else what
   -- is asked, or shown, or why nothing can be computed; else what is computed, once it is stored.

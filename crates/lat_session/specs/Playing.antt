@@ -13,7 +13,7 @@ use Rattle.lat_core.specs.declared.outcomes.Outcome.TheVariants.{Changed, Refuse
 use Rattle.lat_core.specs.declared.outcomes.SessionRefusal.TheVariants.{HistoryFull}
 use Rattle.lat_core.specs.declared.outcomes.Line.{Line}
 use Rattle.lat_core.specs.Histories.{Knowledge, IsAfter, IsPlaced, IsUnplaced, IsRefusedBy}
-use Rattle.lat_session.specs.declared.commands.Command.{Command}
+use Rattle.lat_language.specs.declared.commands.Command.{Command}
 use Rattle.lat_session.specs.Variables.{Variables, AreVariables}
 use Rattle.lat_session.specs.Commands.{request_of}
 use Rattle.lat_session.specs.Outcomes.{Operations, HasOutcome}

@@ -3,7 +3,8 @@
 --     Sends variables value image sending     the values of two variables, or the first unknown one
 --     Results operations L variables c value     what a command that stores comes to
 --     Questions L variables c asked  what a command that only asks comes to
---     ComesTo k variables command value     the same over the lattice that is seen
+--     ComesBy operations k variables command value     the same over the lattice that is seen
+--     ComesTo k variables command value     and by any operations
 --     IsAsked question, IsShownAs L question outcome     questions of commands, and what is shown
 --     Asked k command question, AsksTo k question line     the question of a command that only
 --                                    asks, and the line of each that asks it
@@ -30,8 +31,8 @@ use Rattle.lat_core.specs.declared.outcomes.SessionRefusal.{SessionRefusal}
 use Rattle.lat_core.specs.declared.outcomes.SessionRefusal.TheVariants.{UnknownField, UnknownVariable}
 use Rattle.lat_core.specs.declared.memory.NoMemory.{NoMemory}
 use Rattle.lat_core.specs.Histories.{Knowledge, IsKnowledge, IsUnplaced}
-use Rattle.lat_session.specs.declared.commands.Command.{Command}
-use Rattle.lat_session.specs.declared.commands.Command.TheVariants.{EmbedSending}
+use Rattle.lat_language.specs.declared.commands.Command.{Command}
+use Rattle.lat_language.specs.declared.commands.Command.TheVariants.{EmbedSending}
 use Rattle.lat_session.specs.Variables.{Variables, IsVariable}
 use Rattle.lat_session.specs.Commands.{operands, field_words, result_name, sending_of, request_of}
 use Rattle.lat_session.specs.Outcomes.{IsFirstUnknown, IsFieldWord, Asks, Shows, Computed, Operations, Computes}
@@ -64,9 +65,14 @@ pub data Results (operations : Operations) (L : Lattice) (variables : Variables)
       → Results operations L variables command value
 
 -- over the lattice that is seen, whatever the name of the result
-abbrev pub ComesTo : Knowledge → Variables → (List ℕ → Command) → Computed → Type 0
-ComesTo k variables command value = (operations : Operations) (name : List ℕ)
+abbrev pub ComesBy : Operations → Knowledge → Variables → (List ℕ → Command) → Computed → Type 0
+ComesBy operations k variables command value = (name : List ℕ)
     → OverSeen k (λ L. Results operations L variables (command name) value)
+
+-- and whatever the operations
+abbrev pub ComesTo : Knowledge → Variables → (List ℕ → Command) → Computed → Type 0
+ComesTo k variables command value = (operations : Operations)
+    → ComesBy operations k variables command value
 
 -- the first of two names that is no variable, or the values of both
 pub data Sends (variables : Variables) (value image : List ℕ)
@@ -135,16 +141,17 @@ PlaysAs k variables command after line = (operations : Operations)
     → PlaysOver operations k variables command k after line
 
 -- the line; or nothing was entered, and the variables are as before
-abbrev pub IsAnsweredBy : Knowledge → Variables → Command → Knowledge → Variables
+abbrev pub IsAnsweredBy : Operations → Knowledge → Variables → Command → Knowledge → Variables
     → Result Line NoMemory → Type 0
-IsAnsweredBy old variables command new after (Ok line) = (operations : Operations)
-    → PlaysOver operations old variables command new after line
-IsAnsweredBy old variables command new after (Err e) = IsUnplaced old new × (after ≡ variables)
+IsAnsweredBy operations old variables command new after (Ok line) =
+    PlaysOver operations old variables command new after line
+IsAnsweredBy operations old variables command new after (Err e) =
+    IsUnplaced old new × (after ≡ variables)
 
 -- and what is known is knowledge, and the port's borrows are as before
-pub record IsPlayed (old : Knowledge) (variables : Variables) (command : Command)
-    (new : Knowledge) (after : Variables) (before now : List ℕ) (result : Result Line NoMemory)
-    : Type 0 where
-  pub answered : IsAnsweredBy old variables command new after result
+pub record IsPlayed (operations : Operations) (old : Knowledge) (variables : Variables)
+    (command : Command) (new : Knowledge) (after : Variables) (before now : List ℕ)
+    (result : Result Line NoMemory) : Type 0 where
+  pub answered : IsAnsweredBy operations old variables command new after result
   pub known : IsKnowledge new
   pub borrowed : now ≡ before

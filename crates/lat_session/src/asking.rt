@@ -3,8 +3,8 @@
 ghost use Rattle.std.specs.Prelude.{◌≡◌, IfOk};
 ghost use Rattle.alg_model.specs.Lattices.{Lattice};
 ghost use Rattle.lat_core.specs.Answers.{Fits};
-ghost use Rattle.lat_session.specs.declared.commands.Command.TheVariants.{Map, Meet, Common, MinPoly, MinPolyOver};
-ghost use Rattle.lat_session.specs.declared.commands.Command.TheVariants as commands;
+ghost use Rattle.lat_language.specs.declared.commands.Command.TheVariants.{Map, Meet, Common, MinPoly, MinPolyOver};
+ghost use Rattle.lat_language.specs.declared.commands.Command.TheVariants as commands;
 ghost use Rattle.lat_session.specs.PrivatePlaying.{HasSeen, SomeSeen, OverSeen, IsAsked, IsShownAs, Questions, Asked, AsksTo};
 
 use crate::reading::{field_word, marked, name_of, refusal_of_fault, refused};

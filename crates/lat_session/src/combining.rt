@@ -1,7 +1,7 @@
 //! Values in other fields, and what commands compute there.
 
 ghost use Rattle.lat_core.specs.Answers.{IsNumber, IsTaggedValue};
-ghost use Rattle.lat_session.specs.declared.commands.Command.TheVariants.{Add, Mul, Lift, Trace, Norm};
+ghost use Rattle.lat_language.specs.declared.commands.Command.TheVariants.{Add, Mul, Lift, Trace, Norm};
 ghost use Rattle.lat_session.specs.Outcomes.{Lifts};
 ghost use Rattle.lat_session.specs.Playing.{FitSeen};
 ghost use Rattle.lat_session.specs.PrivateCombining.{IsCommonField, LiftsBoth, IsPrimeFieldOf};

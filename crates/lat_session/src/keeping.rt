@@ -2,7 +2,7 @@
 
 ghost use Rattle.std.specs.Prelude.{◌≡◌, IfOk, OnErr};
 ghost use Rattle.lat_core.specs.Answers.{IsNumber};
-ghost use Rattle.lat_session.specs.declared.commands.Command.TheVariants.{Let, Show};
+ghost use Rattle.lat_language.specs.declared.commands.Command.TheVariants.{Let, Show};
 ghost use Rattle.lat_session.specs.Outcomes.{name_at, Reads};
 ghost use Rattle.lat_session.specs.Playing.{FitSeen};
 ghost use Rattle.lat_session.specs.PrivatePlaying.{HasSeen, SomeSeen, OverSeen, KeepsTo, PlaysAs, ComesTo};

@@ -5,15 +5,15 @@
 mod asking;
 mod changes;
 mod combining;
-mod commands;
 mod computing;
 mod keeping;
+mod laws;
 mod pairs;
 mod playing;
 mod reading;
 mod sessions;
 
-pub use commands::{Command, Op};
+pub use laws::{commands_have_one_outcome, outcomes_keep_variables};
 pub use sessions::Session;
 
 /// The most variables that a session holds.

@@ -3,15 +3,17 @@
 ghost use Rattle.std.specs.Prelude.{◌≡◌, IfOk, OnErr};
 ghost use Rattle.lat_core.specs.Histories.{IsKnowledge, IsUnplaced};
 ghost use Rattle.lat_session.specs.Commands.{IsProperCommand};
-ghost use Rattle.lat_session.specs.Outcomes.{Operations};
+ghost use Rattle.lat_session.specs.Outcomes.{operations_of, KeepsValues};
 ghost use Rattle.lat_session.specs.Playing.{FitSeen, PlaysOver};
 ghost use Rattle.lat_session.specs.PrivatePlaying.{IsPlayed};
 
 use crate::asking::{asked, common_question, image_question, meet_question, subfields_question};
 use crate::changes::{change, declare, embed};
-use crate::commands::Command;
+use crate::computing::values_kept;
 use crate::sessions::Session;
 use lat_core::{Line, NoMemory, Port, Question, Request};
+use lat_language::Command;
+use natural_ops::{Operation, Ops};
 
 impl Session {
     /// Plays a command over a port, and gives its line.
@@ -19,11 +21,17 @@ impl Session {
     /// A field is declared under a declared name, and the variables are values of fields of the
     /// lattice that the port has seen; they are again afterwards. Where memory is refused, no
     /// change was entered, and the variables are as before.
-    pub fn play<P: Port>(&mut self, port: &mut P, command: &Command) -> Result<Line, NoMemory>
+    pub fn play<P: Port, F: Operation, G: Operation, H: Operation>(
+        &mut self,
+        port: &mut P,
+        command: &Command,
+        ops: &Ops<F, G, H>,
+    ) -> Result<Line, NoMemory>
         requires proper { IsProperCommand command.now }
         requires fit { FitSeen (P.knowledge port.old) self.old }
-        ensures line { IfOk result (λ line. (operations : Operations) → PlaysOver operations
-            (P.knowledge port.old) self.old command.now (P.knowledge port.new) self.new line) }
+        ensures line { IfOk result (PlaysOver
+            (operations_of ops.now.first ops.now.second ops.now.third)
+            (P.knowledge port.old) self.old command.now (P.knowledge port.new) self.new) }
         ensures unplaced { OnErr result
             (IsUnplaced (P.knowledge port.old) (P.knowledge port.new)) }
         ensures kept { OnErr result (self.new ≡ self.old) }
@@ -32,16 +40,24 @@ impl Session {
         ensures borrowed { P.borrows port.new ≡ P.borrows port.old }
     {
         let _front = port.front();
-        self.played(port, command)
+        values_kept(ops);
+        self.played(port, command, ops)
     }
 
     // The same, a command at a time.
-    fn played<P: Port>(&mut self, port: &mut P, command: &Command) -> Result<Line, NoMemory>
+    fn played<P: Port, F: Operation, G: Operation, H: Operation>(
+        &mut self,
+        port: &mut P,
+        command: &Command,
+        ops: &Ops<F, G, H>,
+    ) -> Result<Line, NoMemory>
         requires proper { IsProperCommand command.now }
         requires fit { FitSeen (P.knowledge port.old) self.old }
         requires known { IsKnowledge (P.knowledge port.old) }
-        ensures { IsPlayed (P.knowledge port.old) self.old command.now (P.knowledge port.new)
-            self.new (P.borrows port.old) (P.borrows port.new) result }
+        requires kept { KeepsValues (operations_of ops.now.first ops.now.second ops.now.third) }
+        ensures { IsPlayed (operations_of ops.now.first ops.now.second ops.now.third)
+            (P.knowledge port.old) self.old command.now (P.knowledge port.new) self.new
+            (P.borrows port.old) (P.borrows port.new) result }
     {
         match command {
             Command::Field { name, p, poly } => change(port, &declare(name, *p, poly)),
@@ -103,6 +119,10 @@ impl Session {
             }
             Command::Lift { result, value, to } => {
                 let computed = self.lift(port, value, to);
+                self.keep(port, result, computed)
+            }
+            Command::Apply { result, op, value } => {
+                let computed = self.applied(port, *op, value, ops);
                 self.keep(port, result, computed)
             }
             Command::Show { value } => Ok(self.show(port, value)),

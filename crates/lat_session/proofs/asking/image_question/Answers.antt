@@ -1,5 +1,5 @@
 use Rattle.std.proofs.lemmas.Result.{err_from_is_err_and}
-use Rattle.lat_session.specs.declared.commands.Command.TheVariants.{Map}
+use Rattle.lat_language.specs.declared.commands.Command.TheVariants.{Map}
 use Rattle.lat_session.specs.Outcomes.IsFirstUnknown.{here, later}
 use Rattle.lat_session.specs.Outcomes.Asks.{map}
 use Rattle.lat_session.specs.PrivatePlaying.Questions.{asked}

@@ -1,6 +1,6 @@
 use Rattle.std.proofs.Common.{[], refl}
 use Rattle.std.proofs.lemmas.Result.{err_from_is_err_and}
-use Rattle.lat_session.specs.declared.commands.Command.TheVariants.{Frob}
+use Rattle.lat_language.specs.declared.commands.Command.TheVariants.{Frob}
 use Rattle.lat_session.proofs.ComputedValues.{first_unknown, operand_valid, comes_frobenius}
 use Rattle.lat_session.proofs.sessions.Session.frobenius.Goals as goal
 

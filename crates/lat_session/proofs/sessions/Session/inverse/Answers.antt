@@ -1,6 +1,6 @@
 use Rattle.std.proofs.Common.{[], refl, false, ⊎_elim}
 use Rattle.std.proofs.lemmas.Result.{err_from_is_err_and}
-use Rattle.lat_session.specs.declared.commands.Command.TheVariants.{Inv}
+use Rattle.lat_language.specs.declared.commands.Command.TheVariants.{Inv}
 use Rattle.lat_session.proofs.Tables.{not_both}
 use Rattle.lat_session.proofs.ComputedValues.{first_unknown, operand_valid, comes_inverse, comes_nothing}
 use Rattle.std.proofs.lemmas.Bool.{cases_eq}

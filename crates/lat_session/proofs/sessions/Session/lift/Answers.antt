@@ -1,6 +1,6 @@
 use Rattle.std.proofs.Common.{[], refl}
 use Rattle.std.proofs.lemmas.Result.{err_from_is_err_and}
-use Rattle.lat_session.specs.declared.commands.Command.TheVariants.{Lift}
+use Rattle.lat_language.specs.declared.commands.Command.TheVariants.{Lift}
 use Rattle.lat_session.proofs.ComputedValues.{first_unknown}
 use Rattle.lat_session.proofs.CombinedValues.{lifts_nowhere, lifts_somewhere}
 use Rattle.lat_session.proofs.sessions.Session.lift.Goals as goal

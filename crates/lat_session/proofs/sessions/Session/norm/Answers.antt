@@ -1,7 +1,7 @@
 use Rattle.std.proofs.Common.{[], refl}
 use Rattle.std.proofs.lemmas.Result.{err_from_is_err_and}
 use Rattle.alg_model.specs.Conjugates as conjugates
-use Rattle.lat_session.specs.declared.commands.Command.TheVariants.{Norm}
+use Rattle.lat_language.specs.declared.commands.Command.TheVariants.{Norm}
 use Rattle.lat_session.proofs.FittingPlays.{seen_compatible}
 use Rattle.lat_session.proofs.ComputedValues.{first_unknown, operand_valid}
 use Rattle.lat_session.proofs.CombinedValues.{residue_fits, in_prime_field, comes_norm}

@@ -1,6 +1,6 @@
 use Rattle.std.proofs.Common.{[], refl}
 use Rattle.std.proofs.lemmas.Result.{err_from_is_err_and}
-use Rattle.lat_session.specs.declared.commands.Command.TheVariants.{Pow}
+use Rattle.lat_language.specs.declared.commands.Command.TheVariants.{Pow}
 use Rattle.lat_session.proofs.ComputedValues.{first_unknown, operand_valid, comes_power}
 use Rattle.lat_session.proofs.sessions.Session.power.Goals as goal
 
