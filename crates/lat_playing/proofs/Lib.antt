@@ -1,0 +1,13 @@
+pub mod PlayedCommands
+pub mod PlayedWorlds
+pub mod OpenedPlayers
+pub mod PlayedScripts
+pub mod WorldLines
+pub mod WorldEvents
+pub mod ScriptWorlds
+pub mod FinishedWorlds
+pub mod HeldChanges
+pub mod ScriptLaws
+pub mod AnsweredSessions
+pub mod AnsweredWorlds
+pub mod AnsweredScripts

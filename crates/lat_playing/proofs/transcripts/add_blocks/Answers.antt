@@ -1,0 +1,14 @@
+-- One session more.
+use Rattle.std.proofs.Common.{arith, ◌∙◌, ap, sym, ◌++◌}
+use Rattle.lat_playing.specs.declared.players.Player.{Player}
+use Rattle.lat_playing.proofs.PlayedScripts.{blocks_more}
+use Rattle.lat_playing.proofs.transcripts.add_blocks.Goals as goal
+
+pub loop-i-preserved : goal.loop-i-preserved
+loop-i-preserved c = record {
+  blocks = blocks_more c.args.sessions.now c.args.players.now c.loop-i.i c.index-sessions-i.result c.index-players-i.result
+      c.args.out.now.items c.loop-i.out.items c.add_session.new.out.items c.extend_from_slice.new.self.items
+      (omega arith) c.requires c.index-sessions-i.is c.index-players-i.is c.loop-i.invariant.blocks c.in_ok-add_session.ensures.ok
+      (c.in_ok-extend_from_slice.ensures.items ∙ ap (λ t. c.add_session.new.out.items ++ t) c.deref.ensures.value
+      ∙ ap (λ (p : Player). c.add_session.new.out.items ++ p.text.items) (sym c.index-players-i.is));
+}

@@ -1,0 +1,9 @@
+pub mod Worlds
+pub mod Transcripts
+pub mod Plays
+pub mod PrivatePlays
+pub mod PrivateTranscripts
+pub mod Theorems
+pub mod PrivateWorlds
+pub mod Answered
+pub mod PrivateAnswered

@@ -1,0 +1,33 @@
+-- Scripts that can be played, and what playing them gives.
+--     IsPlayable script       its commands are proper, a history has room for them all, and there
+--                             are not too many sessions
+--     Performs edition operations script performance     the history and the lines of the script
+--                             when it is played by its schedule
+use Rattle.std.specs.Prelude.{◌≡◌, ◌+◌, ◌≤◌, length, All}
+use Rattle.alg_model.specs.Lattices as lattices
+use Rattle.lat_language.specs.declared.scripts.Script.{Script}
+use Rattle.lat_language.specs.declared.scripts.SessionScript.{SessionScript}
+use Rattle.lat_language.specs.declared.scripts.TheConstants.{MAX_SESSIONS}
+use Rattle.lat_language.specs.Grammar.{session_commands}
+use Rattle.lat_session.specs.Commands.{IsProperCommand}
+use Rattle.lat_session.specs.Outcomes.{Operations}
+use Rattle.lat_history.specs.declared.TheConstants.{MAX_ROOM}
+use Rattle.lat_playing.specs.declared.plays.Performance.{Performance}
+use Rattle.lat_playing.specs.Worlds.{World, IsSolo}
+use Rattle.lat_playing.specs.Transcripts.{sessions_text}
+
+-- fields are declared under declared names alone, and there are not too many commands and sessions
+pub record IsPlayable (script : Script) : Type 0 where
+  pub prologue : All IsProperCommand script.prologue
+  pub sessions : All (λ (s : SessionScript). All IsProperCommand s.commands) script.sessions
+  pub few : length script.prologue + session_commands script.sessions ≤ MAX_ROOM
+  pub few_sessions : length script.sessions ≤ MAX_SESSIONS
+
+-- the book has the history of the world after the schedule and the rest, and the lines are its own
+pub record Performs (edition : lattices.Edition) (operations : Operations) (script : Script)
+    (performance : Performance) : Type 0 where
+  pub world : World
+  pub solo : IsSolo edition operations script world
+  pub of_edition : performance.book.edition ≡ edition
+  pub history : performance.book.entries ≡ world.history
+  pub lines : performance.lines.items ≡ sessions_text script world

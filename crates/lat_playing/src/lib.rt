@@ -1,0 +1,16 @@
+//! Playing a script: its sessions over one history.
+#![tactic(auto)]
+
+mod laws;
+mod openings;
+mod players;
+mod plays;
+mod stages;
+mod transcripts;
+
+pub use laws::{
+    answered_sessions_are_worlds, histories_hold_changes, lines_answer_commands,
+    schedules_are_events, scripts_are_finished, scripts_have_one_transcript,
+    scripts_have_transcripts,
+};
+pub use plays::{Performance, play_solo};
