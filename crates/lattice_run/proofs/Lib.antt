@@ -1,10 +1,5 @@
-pub mod PrimeNames
-pub mod Building
-pub mod Declaring
-pub mod Lattices
-pub mod Playing
+pub mod PlayableScripts
+pub mod Transcribed
 pub mod Running
 pub mod Statuses
 pub mod Determined
-pub mod Existence
-pub mod Table

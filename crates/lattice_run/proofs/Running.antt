@@ -8,13 +8,15 @@ use Rattle.lat_io.specs.declared.faults.ReadFault.{ReadFault}
 use Rattle.lat_io.specs.declared.faults.ReadFault.TheVariants.{Failed, TooLong, NoMemory as ReadNoMemory}
 use Rattle.lat_io.specs.Source.{ReadWhole, TakesFront, TakesAtMost, TakesSome, TookBefore}
 use Rattle.lat_io.specs.Streams.{Stream}
-use Rattle.lat_script.proofs.ParsedLines.{spelled_not_empty, leading_not_empty}
+use Rattle.lat_language.proofs.ParsedLines.{spelled_not_empty, leading_not_empty}
 use Rattle.lattice_run.specs.declared.run.TheConstants.{MAX_INPUT}
-use Rattle.lat_script.specs.declared.commands.Script.{Script}
-use Rattle.lat_script.specs.Grammar.{Spells, FirstBad}
-use Rattle.lat_script.specs.Texts.{usage_text, bad_line_text, too_long_text}
+use Rattle.lat_language.specs.declared.scripts.Script.{Script}
+use Rattle.lat_language.specs.Grammar.{Spells, FirstBad}
+use Rattle.lat_language.specs.Texts.{usage_text, bad_line_text, too_long_text}
 use Rattle.lattice_run.specs.declared.status.TheConstants.{DONE, NO_COMMAND, BAD_SCRIPT}
-use Rattle.lattice_run.specs.Transcript.{IsTranscript}
+use Rattle.alg_model.specs.Lattices.{first_edition}
+use Rattle.lat_session.specs.Outcomes.{Operations}
+use Rattle.lat_playing.specs.Transcripts.{IsTranscript}
 use Rattle.lattice_run.specs.Answers.{IsSolo, IsInput, TakesInput}
 use Rattle.lattice_run.specs.Answers.Answers.{usage, too_long, bad_line, played}
 use Rattle.lattice_run.specs.PrivateRuns.{Delivers, NeedsMemory, AnswersInput, Ran}
@@ -123,43 +125,43 @@ needs_not_empty input (inr (script, spelled)) = spelled_not_empty input script s
 
 -- ---- the run
 -- an answer to the input, or want of memory for it, is a way out of the run
-pub ran_input : (words : List (List ℕ)) (source source' sink sink' : Stream) (result : ℕ)
+pub ran_input : {operations : Operations} (words : List (List ℕ)) (source source' sink sink' : Stream) (result : ℕ)
     (input : List ℕ) → IsSolo words → source'.faults ≡ source.faults
     → length input ≤ MAX_INPUT → ReadWhole source.bytes source'.bytes input
-    → AnswersInput input sink sink' result → Ran words source source' sink sink' result
+    → AnswersInput operations input sink sink' result → Ran operations words source source' sink sink' result
 ran_input words source source' sink sink' result input solo u fits h (answered status text a d) =
     delivered input status text u (whole_input words source.bytes source'.bytes input solo fits h) (a words solo) d
 ran_input words source source' sink sink' result input solo u fits h (unanswered needs e k) =
     no_memory solo (some_taken source.bytes source'.bytes input (needs_not_empty input needs) fits h) e u k
 
 -- the line for a first fault answers the input
-pub answered_bad : (input : List ℕ) (sink sink' : Stream) (result line kind : ℕ) (text : List ℕ)
+pub answered_bad : {operations : Operations} (input : List ℕ) (sink sink' : Stream) (result line kind : ℕ) (text : List ℕ)
     → length input ≤ MAX_INPUT → FirstBad input line kind → text ≡ bad_line_text line kind
-    → Delivers BAD_SCRIPT text sink sink' result → AnswersInput input sink sink' result
+    → Delivers BAD_SCRIPT text sink sink' result → AnswersInput operations input sink sink' result
 answered_bad input sink sink' result line kind text fits bad is d =
     answered BAD_SCRIPT (bad_line_text line kind) (λ words solo. bad_line solo fits line kind bad) (subst (λ t. Delivers BAD_SCRIPT t sink sink' result) is d)
 
 -- the transcript answers it
-pub answered_played : (input : List ℕ) (sink sink' : Stream) (result : ℕ) (script : Script)
+pub answered_played : {operations : Operations} (input : List ℕ) (sink sink' : Stream) (result : ℕ) (script : Script)
     (text : List ℕ) → length input ≤ MAX_INPUT → Spells input script
-    → IsTranscript script.prologue text → Delivers DONE text sink sink' result
-    → AnswersInput input sink sink' result
+    → IsTranscript first_edition operations script text → Delivers DONE text sink sink' result
+    → AnswersInput operations input sink sink' result
 answered_played input sink sink' result script text fits spelled plays d =
     answered DONE text (λ words solo. played solo fits script text spelled plays) d
 
 -- the usage line answers other words
-pub ran_usage : (words : List (List ℕ)) (source sink sink' : Stream) (result : ℕ) (text : List ℕ)
+pub ran_usage : {operations : Operations} (words : List (List ℕ)) (source sink sink' : Stream) (result : ℕ) (text : List ℕ)
     → (IsSolo words → ⊥) → text ≡ usage_text → Delivers NO_COMMAND text sink sink' result
-    → Ran words source source sink sink' result
+    → Ran operations words source source sink sink' result
 ran_usage words source sink sink' result text other is d =
     let (input, unread) = unread_input words source.bytes other in
     delivered input NO_COMMAND usage_text refl unread (usage other) (subst (λ t. Delivers NO_COMMAND t sink sink' result) is d)
 
 -- the line for an input that is too long answers it
-pub ran_too_long : (words : List (List ℕ)) (source source' sink sink' : Stream) (result : ℕ)
+pub ran_too_long : {operations : Operations} (words : List (List ℕ)) (source source' sink sink' : Stream) (result : ℕ)
     (text : List ℕ) → IsSolo words → source'.faults ≡ source.faults
     → TakesFront source.bytes source'.bytes (MAX_INPUT + 1) → text ≡ too_long_text MAX_INPUT
-    → Delivers BAD_SCRIPT text sink sink' result → Ran words source source' sink sink' result
+    → Delivers BAD_SCRIPT text sink sink' result → Ran operations words source source' sink sink' result
 ran_too_long words source source' sink sink' result text solo u taken is d =
     let (input, long, whole) = long_input words source.bytes source'.bytes solo taken in
     delivered input BAD_SCRIPT (too_long_text MAX_INPUT) u whole (too_long solo long) (subst (λ t. Delivers BAD_SCRIPT t sink sink' result) is d)

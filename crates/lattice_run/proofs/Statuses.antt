@@ -8,10 +8,12 @@ use Rattle.lat_io.proofs.Counts.{one_more_rose}
 use Rattle.lat_io.specs.Sink.{AppendsPart}
 use Rattle.lat_io.specs.Source.{ReadWhole, TakesSome}
 use Rattle.lat_io.specs.Streams.{Stream}
-use Rattle.lat_script.specs.declared.commands.Script.{Script}
-use Rattle.lat_script.specs.Grammar.{Spells}
+use Rattle.lat_language.specs.declared.scripts.Script.{Script}
+use Rattle.lat_language.specs.Grammar.{Spells}
 use Rattle.lattice_run.specs.declared.run.TheConstants.{MAX_INPUT}
-use Rattle.lattice_run.specs.Transcript.{IsTranscript}
+use Rattle.alg_model.specs.Lattices.{first_edition}
+use Rattle.lat_session.specs.Outcomes.{Operations}
+use Rattle.lat_playing.specs.Transcripts.{IsTranscript}
 use Rattle.lattice_run.specs.declared.status.TheConstants.{DONE, NO_COMMAND, BAD_SCRIPT, READ_FAILED, WRITE_FAILED, NO_MEMORY}
 use Rattle.lattice_run.specs.Answers.{IsSolo, Answers, IsInput, TakesInput}
 use Rattle.lattice_run.specs.Headline.{Headline}
@@ -19,12 +21,12 @@ use Rattle.lattice_run.specs.Answers.Answers.{usage, too_long, bad_line, played}
 use Rattle.lattice_run.specs.PrivateRuns.{Ran}
 use Rattle.lattice_run.specs.PrivateRuns.Ran.{delivered, unread, no_memory}
 use Rattle.lattice_run.specs.PrivateRuns.Delivers.{whole, part}
-use Rattle.lattice_run.proofs.Determined.{answer_unique}
+use Rattle.lattice_run.proofs.Determined.{status_unique}
 use Rattle.lattice_run.proofs.Running.{nothing_past}
 
 -- ---- the statuses of answers
-answer_below : {words : List (List ℕ)} {input : List ℕ} {status : ℕ} {text : List ℕ}
-    → Answers words input status text → status < READ_FAILED
+answer_below : {operations : Operations} {words : List (List ℕ)} {input : List ℕ} {status : ℕ} {text : List ℕ}
+    → Answers operations words input status text → status < READ_FAILED
 answer_below (usage other) = lit< tt
 answer_below (too_long solo l) = lit< tt
 answer_below (bad_line solo f line kind b) = lit< tt
@@ -39,8 +41,8 @@ answered_below r (suc (suc (suc k)), within, at) = absurd (omega (arith, within)
 Listed : ℕ → Type 0
 Listed r = Contains (DONE ∷ NO_COMMAND ∷ BAD_SCRIPT ∷ READ_FAILED ∷ WRITE_FAILED ∷ NO_MEMORY ∷ []) r
 
-answer_listed : {words : List (List ℕ)} {input : List ℕ} {status : ℕ} {text : List ℕ} (r : ℕ)
-    → Answers words input status text → r ≡ status → Listed r
+answer_listed : {operations : Operations} {words : List (List ℕ)} {input : List ℕ} {status : ℕ} {text : List ℕ} (r : ℕ)
+    → Answers operations words input status text → r ≡ status → Listed r
 unfolding Listed
 answer_listed r (usage other) e = (1, lit< tt, sym e)
 answer_listed r (too_long solo l) e = (2, lit< tt, sym e)
@@ -63,17 +65,17 @@ kept : (sink sink' : Stream) → sink' ≡ sink → Keeps sink.bytes sink'.bytes
 kept sink sink' e = subst (λ s. Keeps sink.bytes s.bytes) (sym e) (Keeps-refl sink.bytes)
 
 -- ---- a run, by the way that it leaves
-module _ (words : List (List ℕ)) (source source' sink sink' : Stream) (result : ℕ) where
+module _ (operations : Operations) (words : List (List ℕ)) (source source' sink sink' : Stream) (result : ℕ) where
   -- what status 0 says
   Done : Type 0
   Done = (input : List ℕ) × (script : Script) × (text : List ℕ)
       × ReadWhole source.bytes source'.bytes input × Spells input script
-      × IsTranscript script.prologue text × Appends sink.bytes sink'.bytes text
+      × IsTranscript first_edition operations script text × Appends sink.bytes sink'.bytes text
 
   -- what statuses 0, 2 and 3 say
   Answered : ℕ → Type 0
   Answered status = (input : List ℕ) × (text : List ℕ)
-      × IsInput words input source.bytes source'.bytes × Answers words input status text
+      × IsInput words input source.bytes source'.bytes × Answers operations words input status text
       × Appends sink.bytes sink'.bytes text
 
   -- what status 4 says
@@ -89,11 +91,11 @@ module _ (words : List (List ℕ)) (source source' sink sink' : Stream) (result 
   WriteFailed : Type 0
   WriteFailed = (sink'.faults ≡ one_more sink.faults)
       × (input : List ℕ) × (answer : ℕ) × (text : List ℕ)
-      × IsInput words input source.bytes source'.bytes × Answers words input answer text
+      × IsInput words input source.bytes source'.bytes × Answers operations words input answer text
       × AppendsPart sink.bytes sink'.bytes text
 
   done_answer : {input : List ℕ} {status : ℕ} {text : List ℕ}
-      → IsInput words input source.bytes source'.bytes → Answers words input status text
+      → IsInput words input source.bytes source'.bytes → Answers operations words input status text
       → status ≡ DONE → Appends sink.bytes sink'.bytes text → Done
   unfolding Done
   done_answer i (usage other) e h = absurd (omega arith)
@@ -102,67 +104,67 @@ module _ (words : List (List ℕ)) (source source' sink sink' : Stream) (result 
   done_answer {input = input} i (played solo f script text s t) e h =
       (input, script, text, whole_read words input source.bytes source'.bytes solo f i, s, t, h)
 
-  done : Ran words source source' sink sink' result → result ≡ DONE → Done
+  done : Ran operations words source source' sink sink' result → result ≡ DONE → Done
   done (delivered input status text u i a (whole e w h)) z = done_answer i a (sym e ∙ z) h
   done (delivered input status text u i a (part e w h)) z = absurd (omega arith)
   done (unread solo e r k) z = absurd (omega arith)
   done (no_memory solo t e r k) z = absurd (omega arith)
 
-  answered : Ran words source source' sink sink' result → result < READ_FAILED → Answered result
+  answered : Ran operations words source source' sink sink' result → result < READ_FAILED → Answered result
   unfolding Answered
   answered (delivered input status text u i a (whole e w h)) below =
-      (input, text, i, subst (λ s. Answers words input s text) (sym e) a, h)
+      (input, text, i, subst (λ s. Answers operations words input s text) (sym e) a, h)
   answered (delivered input status text u i a (part e w h)) below = absurd (omega arith)
   answered (unread solo e r k) below = absurd (omega arith)
   answered (no_memory solo t e r k) below = absurd (omega arith)
 
   -- what was delivered whole has the status of an answer
-  not_answered : {input : List ℕ} {status : ℕ} {text : List ℕ} → Answers words input status text
+  not_answered : {input : List ℕ} {status : ℕ} {text : List ℕ} → Answers operations words input status text
       → result ≡ status → READ_FAILED ≤ result → ⊥
   not_answered {status = status} a e z = absurd (let b : status < READ_FAILED = answer_below a in omega arith)
 
-  read_failed : Ran words source source' sink sink' result → result ≡ READ_FAILED → ReadFailed
+  read_failed : Ran operations words source source' sink sink' result → result ≡ READ_FAILED → ReadFailed
   unfolding ReadFailed
   read_failed (delivered input status text u i a (whole e w h)) z = absurd (not_answered a e (omega arith))
   read_failed (delivered input status text u i a (part e w h)) z = absurd (omega arith)
   read_failed (unread solo e r k) z = (solo, r, kept sink sink' k)
   read_failed (no_memory solo t e r k) z = absurd (omega arith)
 
-  write_failed : Ran words source source' sink sink' result → result ≡ WRITE_FAILED → WriteFailed
+  write_failed : Ran operations words source source' sink sink' result → result ≡ WRITE_FAILED → WriteFailed
   unfolding WriteFailed
   write_failed (delivered input status text u i a (whole e w h)) z = absurd (not_answered a e (omega arith))
   write_failed (delivered input status text u i a (part e w h)) z = (w, input, status, text, i, a, h)
   write_failed (unread solo e r k) z = absurd (omega arith)
   write_failed (no_memory solo t e r k) z = absurd (omega arith)
 
-  memory_refused : Ran words source source' sink sink' result → result ≡ NO_MEMORY → MemoryRefused
+  memory_refused : Ran operations words source source' sink sink' result → result ≡ NO_MEMORY → MemoryRefused
   unfolding MemoryRefused
   memory_refused (delivered input status text u i a (whole e w h)) z = absurd (not_answered a e (omega arith))
   memory_refused (delivered input status text u i a (part e w h)) z = absurd (omega arith)
   memory_refused (unread solo e r k) z = absurd (omega arith)
   memory_refused (no_memory solo t e r k) z = (solo, t, kept sink sink' k)
 
-  statuses : Ran words source source' sink sink' result → Listed result
+  statuses : Ran operations words source source' sink sink' result → Listed result
   unfolding Listed
   statuses (delivered input status text u i a (whole e w h)) = answer_listed result a e
   statuses (delivered input status text u i a (part e w h)) = (4, lit< tt, sym e)
   statuses (unread solo e r k) = (3, lit< tt, sym e)
   statuses (no_memory solo t e r k) = (5, lit< tt, sym e)
 
-  reads_counted : Ran words source source' sink sink' result → result ≢ READ_FAILED
+  reads_counted : Ran operations words source source' sink sink' result → result ≢ READ_FAILED
       → source'.faults ≡ source.faults
   reads_counted (delivered input status text u i a d) n = u
   reads_counted (unread solo e r k) n = absurd (n e)
   reads_counted (no_memory solo t e r k) n = r
 
-  writes_counted : Ran words source source' sink sink' result → result ≢ WRITE_FAILED
+  writes_counted : Ran operations words source source' sink sink' result → result ≢ WRITE_FAILED
       → sink'.faults ≡ sink.faults
   writes_counted (delivered input status text u i a (whole e w h)) n = w
   writes_counted (delivered input status text u i a (part e w h)) n = absurd (n e)
   writes_counted (unread solo e r k) n = ap (λ s. s.faults) k
   writes_counted (no_memory solo t e r k) n = ap (λ s. s.faults) k
 
-  other_words : Ran words source source' sink sink' result → (IsSolo words → ⊥)
+  other_words : Ran operations words source source' sink sink' result → (IsSolo words → ⊥)
       → (Rose sink.faults sink'.faults → ⊥) → result ≡ NO_COMMAND
   other_words (delivered input status text u i (usage o) (whole e w h)) other r = e
   other_words (delivered input status text u i (too_long solo l) (whole e w h)) other r = absurd (other solo)
@@ -172,21 +174,21 @@ module _ (words : List (List ℕ)) (source source' sink sink' : Stream) (result 
   other_words (unread solo e f k) other r = absurd (other solo)
   other_words (no_memory solo t e f k) other r = absurd (other solo)
 
-  complete : Ran words source source' sink sink' result → (Rose source.faults source'.faults → ⊥)
+  complete : Ran operations words source source' sink sink' result → (Rose source.faults source'.faults → ⊥)
       → (Rose sink.faults sink'.faults → ⊥) → (input : List ℕ) (answer : ℕ) (text : List ℕ)
-      → source.bytes ≡ Some input → Answers words input answer text
+      → source.bytes ≡ Some input → Answers operations words input answer text
       → (result ≡ answer) ⊎ (result ≡ NO_MEMORY)
   complete (delivered input s text u i a (whole e w h)) r f bytes answer other is b =
       let same : input ≡ bytes = the_input words input bytes source.bytes source'.bytes is i in
-      inl (e ∙ (answer_unique (subst (λ x. Answers words x s text) same a) b).0)
+      inl (e ∙ status_unique (subst (λ x. Answers operations words x s text) same a) b)
   complete (delivered input s text u i a (part e w h)) r f bytes answer other is b = absurd (f (one_more_rose sink.faults sink'.faults w))
   complete (unread solo e w k) r f bytes answer other is b = absurd (r (one_more_rose source.faults source'.faults w))
   complete (no_memory solo t e w k) r f bytes answer other is b = inr e
 
   -- **the headline**
-  pub headline : Ran words source source' sink sink' result
+  pub headline : Ran operations words source source' sink sink' result
       → TakesInput words source.bytes source'.bytes
-      → Headline words source source' sink sink' result
+      → Headline operations words source source' sink sink' result
   unfolding Done Answered ReadFailed MemoryRefused WriteFailed Listed
   headline ran taken = record {
     done = λ e. done ran e;

@@ -1,29 +1,33 @@
 -- What the program answers to its words and its input.
 --     IsSolo words                          the one word `solo`
---     Answers words input status text       the exit status, and what is written
+--     Answers operations words input status text     the exit status, and what is written
 --     IsInput words input old new           what a source gave of its bytes, from `old` to `new`
 --     TakesInput words old new              how much is taken at most, whatever the status
 use Rattle.std.specs.Prelude.{◌≡◌, ℕ, ◌+◌, ◌<◌, ◌≤◌, List, [], ◌∷◌, length, drop, codes, Option, Some, IfSome}
 use Rattle.lat_io.specs.Source.{TakesAtMost}
-use Rattle.lat_script.specs.declared.commands.Script.{Script}
-use Rattle.lat_script.specs.Grammar.{Spells, FirstBad}
-use Rattle.lat_script.specs.Texts.{usage_text, bad_line_text, too_long_text}
+use Rattle.alg_model.specs.Lattices.{first_edition}
+use Rattle.lat_language.specs.declared.scripts.Script.{Script}
+use Rattle.lat_language.specs.Grammar.{Spells, FirstBad}
+use Rattle.lat_language.specs.Texts.{usage_text, bad_line_text, too_long_text}
 use Rattle.lattice_run.specs.declared.run.TheConstants.{MAX_INPUT}
 use Rattle.lattice_run.specs.declared.status.TheConstants.{DONE, NO_COMMAND, BAD_SCRIPT}
-use Rattle.lattice_run.specs.Transcript.{IsTranscript}
+use Rattle.lat_session.specs.Outcomes.{Operations}
+use Rattle.lat_playing.specs.Transcripts.{IsTranscript}
 
 abbrev pub IsSolo : List (List ℕ) → Type 0
 IsSolo words = words ≡ codes "solo" ∷ []
 
 -- One constructor for each kind of answer.
-pub data Answers (words : List (List ℕ)) (input : List ℕ) : ℕ → List ℕ → Type 0 where
-  usage : (IsSolo words → ⊥) → Answers words input NO_COMMAND usage_text
+pub data Answers (operations : Operations) (words : List (List ℕ)) (input : List ℕ)
+    : ℕ → List ℕ → Type 0 where
+  usage : (IsSolo words → ⊥) → Answers operations words input NO_COMMAND usage_text
   too_long : IsSolo words → MAX_INPUT < length input
-      → Answers words input BAD_SCRIPT (too_long_text MAX_INPUT)
+      → Answers operations words input BAD_SCRIPT (too_long_text MAX_INPUT)
   bad_line : IsSolo words → length input ≤ MAX_INPUT → (line kind : ℕ) → FirstBad input line kind
-      → Answers words input BAD_SCRIPT (bad_line_text line kind)
+      → Answers operations words input BAD_SCRIPT (bad_line_text line kind)
   played : IsSolo words → length input ≤ MAX_INPUT → (script : Script) (text : List ℕ)
-      → Spells input script → IsTranscript script.prologue text → Answers words input DONE text
+      → Spells input script → IsTranscript first_edition operations script text
+      → Answers operations words input DONE text
 
 -- Where the source tells its bytes they are the input. Nothing of it is read for other words than
 -- `solo`, and for `solo` all of it, but at most MAX_INPUT + 1 bytes.

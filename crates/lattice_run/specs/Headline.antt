@@ -1,30 +1,32 @@
--- The headline: what a run of the program does, from its words, its source and its sink, for one
--- session of `field` commands. A source and a sink are their bytes, where they tell them, and their
--- counts of faults (`Stream`); with a prime they are those after the run.
+-- The headline: what a run of the program does, from its words, its source and its sink, and the
+-- three operations that it was given. A source and a sink are their bytes, where they tell them,
+-- and their counts of faults (`Stream`); with a prime they are those after the run.
 use Rattle.std.specs.Prelude.{◌≡◌, ◌≢◌, ◌⊎◌, ℕ, List, [], ◌∷◌, Contains, Some}
 use Rattle.std.specs.Io.KnownBytes.{Keeps, Appends}
 use Rattle.lat_io.specs.Faults.{one_more, Rose}
 use Rattle.lat_io.specs.Sink.{AppendsPart}
 use Rattle.lat_io.specs.Source.{ReadWhole, TakesSome}
 use Rattle.lat_io.specs.Streams.{Stream}
-use Rattle.lat_script.specs.declared.commands.Script.{Script}
-use Rattle.lat_script.specs.Grammar.{Spells}
+use Rattle.lat_language.specs.declared.scripts.Script.{Script}
+use Rattle.lat_language.specs.Grammar.{Spells}
 use Rattle.lattice_run.specs.declared.run.TheConstants.{MAX_INPUT}
 use Rattle.lattice_run.specs.declared.status.TheConstants.{DONE, NO_COMMAND, BAD_SCRIPT, READ_FAILED, WRITE_FAILED, NO_MEMORY}
 use Rattle.lattice_run.specs.Answers.{IsSolo, Answers, IsInput, TakesInput}
-use Rattle.lattice_run.specs.Transcript.{IsTranscript}
+use Rattle.alg_model.specs.Lattices.{first_edition}
+use Rattle.lat_session.specs.Outcomes.{Operations}
+use Rattle.lat_playing.specs.Transcripts.{IsTranscript}
 
-pub record Headline (words : List (List ℕ)) (source source' sink sink' : Stream) (status : ℕ)
-    : Type 0 where
+pub record Headline (operations : Operations) (words : List (List ℕ))
+    (source source' sink sink' : Stream) (status : ℕ) : Type 0 where
   -- Status 0: the source was read to its end, its bytes spell one script, and the transcript of
   -- that script was appended.
   pub done : status ≡ DONE → (input : List ℕ) × (script : Script) × (text : List ℕ)
       × ReadWhole source.bytes source'.bytes input × Spells input script
-      × IsTranscript script.prologue text × Appends sink.bytes sink'.bytes text
+      × IsTranscript first_edition operations script text × Appends sink.bytes sink'.bytes text
   -- Statuses 0, 2 and 3: the answer that words and input have, and its text was appended.
   pub answered : Contains (DONE ∷ NO_COMMAND ∷ BAD_SCRIPT ∷ []) status
       → (input : List ℕ) × (text : List ℕ) × IsInput words input source.bytes source'.bytes
-      × Answers words input status text × Appends sink.bytes sink'.bytes text
+      × Answers operations words input status text × Appends sink.bytes sink'.bytes text
   -- Status 4: the words are `solo`, a read failed, and nothing was appended.
   pub read_failed : status ≡ READ_FAILED → IsSolo words
       × (source'.faults ≡ one_more source.faults) × Keeps sink.bytes sink'.bytes
@@ -32,7 +34,7 @@ pub record Headline (words : List (List ℕ)) (source source' sink sink' : Strea
   -- of it.
   pub write_failed : status ≡ WRITE_FAILED → (sink'.faults ≡ one_more sink.faults)
       × (input : List ℕ) × (answer : ℕ) × (text : List ℕ)
-      × IsInput words input source.bytes source'.bytes × Answers words input answer text
+      × IsInput words input source.bytes source'.bytes × Answers operations words input answer text
       × AppendsPart sink.bytes sink'.bytes text
   -- Status 6: the words are `solo`, at least one byte of the source was taken, and at most the
   -- limit, and nothing was appended.
@@ -52,4 +54,4 @@ pub record Headline (words : List (List ℕ)) (source source' sink sink' : Strea
   -- that words and input have, but for memory.
   pub complete : ¬ Rose source.faults source'.faults → ¬ Rose sink.faults sink'.faults
       → (input : List ℕ) (answer : ℕ) (text : List ℕ) → source.bytes ≡ Some input
-      → Answers words input answer text → (status ≡ answer) ⊎ (status ≡ NO_MEMORY)
+      → Answers operations words input answer text → (status ≡ answer) ⊎ (status ≡ NO_MEMORY)

@@ -1,5 +1,3 @@
-pub mod Lattice
-pub mod Transcript
 pub mod Answers
 pub mod Headline
 pub mod Theorems

@@ -2,9 +2,10 @@
 //! come of it.
 ghost use Rattle.std.specs.Prelude.{◌≤◌};
 
-use crate::run_plain;
+use crate::run_with;
 use crate::status::{BAD_SCRIPT, DONE, NO_COMMAND, READ_FAILED, WRITE_FAILED};
-use lat_io::{MemorySink, MemorySource, StdSink, StdSource, read_all};
+use lat_io::{MemorySink, MemorySource, Sink, Source, StdSink, StdSource, read_all};
+use program_ops::{artin_schreier_table, square_table, successor_table};
 use std::alloc::Global;
 use std::process::Abort;
 use std::test::Fail;
@@ -39,6 +40,22 @@ fn sink(alloc: Global, room: usize, piece: usize, fails: &[u32]) -> Result<Memor
     Ok(MemorySink::open(alloc, room, piece, Vec::from_slice(alloc, fails)?)?)
 }
 
+// Runs with the operations of the program.
+fn run<S: Source, K: Sink>(alloc: Global, words: &[String], source: &mut S, sink: &mut K) -> u8 {
+    run_with(
+        alloc,
+        words,
+        source,
+        sink,
+        (square_table(), |field, a| field.mul(a, a)),
+        (
+            artin_schreier_table(),
+            |field, a| { field.add(&field.frob(a), &field.neg(a)) },
+        ),
+        (successor_table(), |field, a| field.add(a, &field.one())),
+    )
+}
+
 // Runs with these words, this source and this sink, which is then to hold the expected bytes.
 fn expect(
     rt: &impl Abort,
@@ -49,7 +66,7 @@ fn expect(
     status: u8,
     held: &[u8],
 ) {
-    assert_eq!(rt; run_plain(alloc, words, &mut source, &mut sink), status);
+    assert_eq!(rt; run(alloc, words, &mut source, &mut sink), status);
     assert_eq!(rt; sink.bytes(), held);
 }
 
@@ -176,6 +193,71 @@ fn plays_more_scripts(rt: HostRuntime) -> Result<(), Fail> {
     expect_solo(&rt, alloc, b"", BAD_SCRIPT, b"bad script line 1 kind 1\n")
 }
 
+// An embedding, a value that is moved and one that isn't in the image, and the operations.
+const VALUES: &[u8] = b"lattice 1
+field K 2 1,1,1
+field L 2 1,1,0,0,1
+embed K into L
+let u L 0,1,1,0
+lift v u K
+let g L 0,1
+lift z g K
+apply i second g
+apply i first v
+minpoly g over K
+";
+
+const VALUES_TEXT: &[u8] = b"ok field 11 @0
+ok field 12 @1
+ok embed 0,1,1,0 made 0 linked 1 @2
+ok L 0,1,1,0 @3
+ok K 0,1 @3
+ok L 0,1,0,0 @3
+refused 15 @3
+ok L 0,1,1,0 @3
+ok K 1,1 @3
+ok relpoly 0,1;1,0;1,0 @3
+summary fields 13 maps 16 changes 3
+";
+
+#[test]
+fn plays_values(rt: HostRuntime) -> Result<(), Fail> {
+    expect_solo(&rt, rt.alloc(), VALUES, DONE, VALUES_TEXT)
+}
+
+// Two sessions by a schedule: a sum becomes possible once the first one has seen the embedding.
+const SESSIONS: &[u8] = b"lattice 1
+field K 2 1,1,1
+field L 2 1,1,0,0,1
+session a
+let u K 0,1
+let v L 0,1
+add w u v
+sync
+add w u v
+session b
+embed K into L
+schedule a a a b
+";
+
+const SESSIONS_TEXT: &[u8] = b"ok field 11 @0
+ok field 12 @1
+session a
+ok K 0,1 @2
+ok L 0,1,0,0 @2
+refused 16 11 12 @2
+ok sync @3
+ok L 0,0,1,0 @4
+session b
+ok embed 0,1,1,0 made 0 linked 1 @2
+summary fields 13 maps 16 changes 4
+";
+
+#[test]
+fn plays_sessions(rt: HostRuntime) -> Result<(), Fail> {
+    expect_solo(&rt, rt.alloc(), SESSIONS, DONE, SESSIONS_TEXT)
+}
+
 #[test]
 fn refuses_other_words(rt: HostRuntime) -> Result<(), Fail> {
     let alloc = rt.alloc();
@@ -206,10 +288,7 @@ fn reads_no_further_after_a_fault(rt: HostRuntime) -> Result<(), Fail> {
     let solo = words(alloc, &["solo"])?;
     let mut source = source(alloc, QUADRATIC, 10, &[2])?;
     let mut sink = sink(alloc, 1000, 100, &[])?;
-    assert_eq!(rt;
-        run_plain(alloc, &solo, &mut source, &mut sink),
-        READ_FAILED
-    );
+    assert_eq!(rt; run(alloc, &solo, &mut source, &mut sink), READ_FAILED);
     assert_eq!(rt;
         read_all(alloc, &mut source, 100)?.as_slice(),
         &QUADRATIC[10..]
@@ -243,7 +322,7 @@ fn runs_over_std(rt: HostRuntime) -> Result<(), Fail> {
     let mut written = Vec::new(alloc);
     let mut sink = StdSink::new(&mut written);
     assert_eq!(rt;
-        run_plain(alloc, &solo, &mut StdSource::new(QUADRATIC), &mut sink),
+        run(alloc, &solo, &mut StdSource::new(QUADRATIC), &mut sink),
         DONE
     );
     assert_eq!(rt; written.as_slice(), QUADRATIC_TEXT);

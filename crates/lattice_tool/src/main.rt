@@ -2,7 +2,8 @@
 #![tactic(auto)]
 
 use lat_io::{StdSink, StdSource};
-use lattice_run::{run_plain, status};
+use lattice_run::{run_with, status};
+use program_ops::{artin_schreier_table, square_table, successor_table};
 use std::alloc::{AllocError, Global};
 use std::process::ExitCode;
 use std::{env, io};
@@ -35,5 +36,16 @@ fn main(rt: HostRuntime) -> ExitCode {
     };
     let mut source = StdSource::new(rt.reader());
     let mut sink = StdSink::new(io::writer(&rt));
-    ExitCode::from(run_plain(rt.alloc(), &words, &mut source, &mut sink))
+    ExitCode::from(run_with(
+        rt.alloc(),
+        &words,
+        &mut source,
+        &mut sink,
+        (square_table(), |field, a| field.mul(a, a)),
+        (
+            artin_schreier_table(),
+            |field, a| { field.add(&field.frob(a), &field.neg(a)) },
+        ),
+        (successor_table(), |field, a| field.add(a, &field.one())),
+    ))
 }

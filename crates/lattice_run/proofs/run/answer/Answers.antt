@@ -1,20 +1,22 @@
 -- The transcript of the script, the line for its fault, or want of memory.
 use Rattle.std.proofs.Common.{◌∙◌, sym, ap, ap₂, subst, refl, inl, inr}
 use Rattle.std.specs.Prelude.{Err}
-use Rattle.lat_script.proofs.LinesOfScripts.{spelled_is_text}
-use Rattle.lat_script.specs.Texts.{bad_line_text}
-use Rattle.lattice_run.specs.Transcript.{IsTranscript}
+use Rattle.alg_model.specs.Lattices.{first_edition}
+use Rattle.lat_language.specs.Texts.{bad_line_text}
+use Rattle.lat_session.specs.Outcomes.{operations_of}
+use Rattle.lat_playing.specs.Transcripts.{IsTranscript}
 use Rattle.lattice_run.specs.PrivateRuns.AnswersInput.{unanswered}
+use Rattle.lattice_run.proofs.PlayableScripts.{spelled_playable}
 use Rattle.lattice_run.proofs.Running.{answered_bad, answered_played}
 use Rattle.lattice_run.proofs.run.answer.Goals as goal
 
-pub play-requires : goal.play-requires
-play-requires g c = (spelled_is_text c.args.input.now c.in-Ok.script c.in-Ok.ensures.script).few
+pub transcript-requires : goal.transcript-requires
+transcript-requires g c = spelled_playable c.args.input.now c.in-Ok.script c.in-Ok.ensures.script
 
-pub returns-in-Ok-play : goal.returns-in-Ok-play
-returns-in-Ok-play g c =
+pub returns-in-Ok-transcript : goal.returns-in-Ok-transcript
+returns-in-Ok-transcript g c =
     answered_played c.args.input.now _ _ c.deliver.result c.in-Ok.script c.deref.result.now c.requires c.in-Ok.ensures.script
-    (subst (IsTranscript c.in-Ok.script.prologue) (sym c.deref.ensures.value) c.in-Ok-play.ensures) c.deliver.ensures
+    (subst (IsTranscript first_edition (operations_of c.args.ops.now.first c.args.ops.now.second c.args.ops.now.third) c.in-Ok.script) (sym c.deref.ensures.value) c.in-Ok-transcript.ensures) c.deliver.ensures
 
 pub returns-in-Ok : goal.returns-in-Ok
 returns-in-Ok g c = unanswered (inr (c.in-Ok.script, c.in-Ok.ensures.script)) refl refl

@@ -1,7 +1,0 @@
-use Rattle.std.proofs.Common.{◌≡◌, ◌++◌, take}
-use Rattle.lat_script.specs.Digits.{digits_text}
-use Rattle.lat_script.proofs.appending.put_numbers.Given as goal
-
--- the numbers so far are appended
-abbrev pub invariant-loop-i : goal.invariant-loop-i
-invariant-loop-i l = l.out.items ≡ l.fn.out.items ++ digits_text (take l.i l.numbers)

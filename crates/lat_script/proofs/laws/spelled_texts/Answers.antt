@@ -1,9 +1,0 @@
--- A text spells a script exactly where its lines are the script's.
-use Rattle.lat_script.proofs.LinesOfScripts.{taken_lines, spelled_is_text, text_is_spelled}
-use Rattle.lat_script.proofs.laws.spelled_texts.Goals as goal
-
-pub returns-clause-texts : goal.returns-clause-texts
-returns-clause-texts c = λ bytes script. (spelled_is_text bytes script, text_is_spelled bytes script)
-
-pub returns-clause-taken : goal.returns-clause-taken
-returns-clause-taken c = taken_lines
