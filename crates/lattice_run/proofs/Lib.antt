@@ -3,3 +3,4 @@ pub mod Transcribed
 pub mod Running
 pub mod Statuses
 pub mod Determined
+pub mod Answered

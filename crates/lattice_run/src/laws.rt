@@ -1,7 +1,7 @@
 //! Laws of answers: functions that do nothing, whose clauses say what holds of the definitions.
 ghost use Rattle.std.specs.Prelude.{◌≡◌};
 ghost use Rattle.lattice_run.specs.declared.run.TheConstants.{MAX_INPUT};
-ghost use Rattle.lattice_run.specs.Theorems.{InputHasOneStatus, StatusNumbers};
+ghost use Rattle.lattice_run.specs.Theorems.{InputHasAnswer, InputHasOneAnswer, InputHasOneStatus, StatusNumbers};
 
 /// The limit, and the statuses, as numbers.
 pub fn limits()
@@ -9,7 +9,10 @@ pub fn limits()
     ensures statuses { StatusNumbers }
 {}
 
-/// Words and an input have one status.
-pub fn one_status()
-    ensures { InputHasOneStatus }
+/// Words and an input have an answer, its status and its text, and only one; whatever the
+/// operations, they have one status.
+pub fn one_answer()
+    ensures exists { InputHasAnswer }
+    ensures unique { InputHasOneAnswer }
+    ensures status { InputHasOneStatus }
 {}

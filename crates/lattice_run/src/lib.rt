@@ -9,5 +9,5 @@ pub mod status;
 mod tests;
 
 pub use entry::run_with;
-pub use laws::{limits, one_status};
+pub use laws::{limits, one_answer};
 pub use run::{MAX_INPUT, run_plain};
