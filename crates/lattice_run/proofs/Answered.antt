@@ -58,7 +58,7 @@ module _ {operations : Operations} (keeps : KeepsValues operations) where
       let same : script' ≡ script = script_unique input script' script s' s in (
         refl,
         one_transcript first_edition operations script text text' first_is_edition keeps (spelled_playable input script s) t
-        (subst (λ (x : Script). IsTranscript first_edition operations x text') same t'),
+            (subst (λ (x : Script). IsTranscript first_edition operations x text') same t'),
       )
 
 -- **only one**
@@ -82,28 +82,28 @@ solo_or_not (x ∷ []) = elim (same_or_not x (codes "solo")) [
 ]
 
 module _ (operations : Operations) (keeps : KeepsValues operations) (words : List (List ℕ))
-  (input : List ℕ) where
-    Answered : Type 0
-    Answered = (s : ℕ) × (text : List ℕ) × Answers operations words input s text
+    (input : List ℕ) where
+  Answered : Type 0
+  Answered = (s : ℕ) × (text : List ℕ) × Answers operations words input s text
 
-    solo_answer : IsSolo words → length input ≤ MAX_INPUT → Answered
-    unfolding Answered
-    solo_answer solo fits = elim (reading_exists input) [
-      | inl s ↦
-          let (text, transcript) = some_transcript first_edition operations s.0 first_is_edition keeps (spelled_playable input s.0 s.1) in
-          (DONE, text, played solo fits s.0 text s.1 transcript)
-      | inr b ↦ (BAD_SCRIPT, bad_line_text b.0 b.1, bad_line solo fits b.0 b.1 b.2)
-    ]
+  solo_answer : IsSolo words → length input ≤ MAX_INPUT → Answered
+  unfolding Answered
+  solo_answer solo fits = elim (reading_exists input) [
+    | inl s ↦
+        let (text, transcript) = some_transcript first_edition operations s.0 first_is_edition keeps (spelled_playable input s.0 s.1) in
+        (DONE, text, played solo fits s.0 text s.1 transcript)
+    | inr b ↦ (BAD_SCRIPT, bad_line_text b.0 b.1, bad_line solo fits b.0 b.1 b.2)
+  ]
 
-    some : Answered
-    unfolding Answered
-    some = elim (solo_or_not words) [
-      | inl solo ↦ elim (cases_lt MAX_INPUT (length input)) [
-        | inl l ↦ (BAD_SCRIPT, too_long_text MAX_INPUT, too_long solo l)
-        | inr h ↦ solo_answer solo h
-      ]
-      | inr n ↦ (NO_COMMAND, usage_text, usage n)
+  some : Answered
+  unfolding Answered
+  some = elim (solo_or_not words) [
+    | inl solo ↦ elim (cases_lt MAX_INPUT (length input)) [
+      | inl l ↦ (BAD_SCRIPT, too_long_text MAX_INPUT, too_long solo l)
+      | inr h ↦ solo_answer solo h
     ]
+    | inr n ↦ (NO_COMMAND, usage_text, usage n)
+  ]
 
 -- **there is one**
 pub answer_exists : InputHasAnswer
