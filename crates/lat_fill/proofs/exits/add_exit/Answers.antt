@@ -1,6 +1,4 @@
 use Rattle.std.proofs.Common.{◌≡◌, Some, None, slice_index_or, subst}
-use Rattle.alg_model.specs.Maps.{degree_of}
-use Rattle.lat_world.specs.Worlds.{map_at}
 use Rattle.lat_fill.proofs.ExitTables.{degree_is, exits_kept, exits_opened}
 use Rattle.lat_fill.proofs.exits.add_exit.Goals as goal
 

@@ -1,6 +1,3 @@
-use Rattle.std.proofs.Common.{subst, sym}
-use Rattle.lat_fill.specs.PrivateWays.{Leads}
-use Rattle.lat_fill.proofs.WayLists.{number_is}
 use Rattle.lat_fill.proofs.ExitTables.{exits_none, exits_past, leads_iff}
 use Rattle.lat_fill.proofs.exits.exits_to.Goals as goal
 use Rattle.lat_fill.proofs.exits.exits_to.Goals.{then-is_stored, else-is_stored}

@@ -1,6 +1,4 @@
 use Rattle.std.proofs.Common.{◌≡◌, Some, None, refl, slice_index_or, subst}
-use Rattle.alg_model.specs.Maps.{degree_of}
-use Rattle.lat_world.specs.Worlds.{map_at}
 use Rattle.lat_fill.proofs.ExitTables.{degree_is, exit_at, none_at}
 use Rattle.lat_fill.proofs.WayLists.{provides_stored}
 use Rattle.lat_fill.proofs.outlets.add_outlet.Goals as goal
