@@ -3,7 +3,6 @@
 #![tactic(auto)]
 
 mod degrees;
-mod exits;
 mod filling;
 mod links;
 mod made;
