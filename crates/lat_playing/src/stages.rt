@@ -19,7 +19,8 @@ fn play_at<F: Operation, G: Operation, H: Operation>(
 ) -> Result<(), NoMemory>
     requires ready { AreReady book.old players.old.items }
     ensures advances { OnOk result (Advances
-        (operations_of ops.now.first ops.now.second ops.now.third) (place ∷ []) book.old players.old.items book.new players.new.items) }
+        (operations_of ops.now.first ops.now.second ops.now.third) (place ∷ [])
+        book.old players.old.items book.new players.new.items) }
     ensures counts { OnOk result (left_counts players.new.items
         ≡ set (left_counts players.old.items) place
         (pred (slice_index_or (left_counts players.old.items) place 0))) }
