@@ -207,6 +207,21 @@ fn begins(number: u32, maps: &[MapRow]) -> bool
     false
 }
 
+// A row of its own with those of the maps put in that begin there.
+#[inline(never)]
+fn row_copied(
+    alloc: Global,
+    number: u32,
+    row: &SharedRow,
+    maps: &[MapRow],
+) -> Result<Arc<SharedRow>, NoMemory>
+    ensures { IfOk result (λ r. r.value ≡ row_with number row.now maps.now) }
+{
+    let mut grown = row.copy()?;
+    grown.put_in(alloc, number, maps)?;
+    Ok(Arc::new(alloc, grown)?)
+}
+
 // A row with those of the maps put in that begin there; where none does, the row is shared.
 fn row_grown(
     alloc: Global,
@@ -220,9 +235,7 @@ fn row_grown(
         return Ok(Arc::try_clone(row)?);
     }
     let shared: &SharedRow = row;
-    let mut grown = shared.copy()?;
-    grown.put_in(alloc, number, maps)?;
-    Ok(Arc::new(alloc, grown)?)
+    row_copied(alloc, number, shared, maps)
 }
 
 // A field with those of the maps that begin there.
