@@ -1,6 +1,6 @@
 -- The list of the maps that are added, made in steps.
 use Prim.Native.Nat.{◌∣◌}
-use Rattle.std.proofs.Common.{◌≡◌, ◌↔◌, ◌%◌, ℕ, ◌+◌, ◌<◌, ◌≤◌, List, [], ◌∷◌, ◌++◌, length, slice_index_or, refl, sym, ap, ◌∙◌, subst, inl, inr, arith, length-append, Option, Some, None, is_some, true}
+use Rattle.std.proofs.Common.{◌≡◌, ◌↔◌, ◌%◌, ℕ, ◌+◌, ◌<◌, List, [], ◌∷◌, ◌++◌, length, slice_index_or, refl, sym, ap, ◌∙◌, subst, inl, inr, arith, length-append, Option, Some, None, is_some, true}
 use Rattle.std.specs.Prelude.{MatchOption}
 use Rattle.std.specs.FinMap.{get}
 use Rattle.std.proofs.lemmas.List.{get_or_append_left, get_or_default}
@@ -16,7 +16,7 @@ use Rattle.lat_core.specs.SharedRows.{IsBetween}
 use Rattle.lat_world.specs.declared.members.Member.{Member}
 use Rattle.lat_world.specs.Worlds.{no_member, map_at, IsForcedBetween}
 use Rattle.lat_fill.specs.PrivateListing.{number_at}
-use Rattle.lat_fill.specs.PrivateWays.{IsWay, AreWays, IsListedPair, IsHad, Keeps, IsReached, AreAtHome, HasPlace, IsWayFor, IsAdded, Provides, Goes}
+use Rattle.lat_fill.specs.PrivateWays.{IsWay, AreWays, IsListedPair, IsHad, Keeps, IsReached, AreAtHome, HasPlace, IsWayFor, Provides, Goes}
 use Rattle.lat_fill.specs.PrivateWays as Ways
 
 -- ---- pairs of a list
@@ -55,17 +55,11 @@ had_by_lattice maps (inl s) = inl s
 had_by_lattice maps (inr p) = absurd (let h = p.within in omega (arith, h))
 
 -- ---- one map more
--- a map for the pair was added, if there is one, or the lattice has one
+-- a map for the pair was added, or the lattice has one
 pub provides : {L : Lattice} {ms : List Member} {Needed : Type 0} {i k : ℕ} {old new : List MapRow}
-    (map : Option MapRow) → AreWays L ms old
-    → MatchOption map (Needed → ⊥) (IsWayFor L ms i k) → IsAdded old map new
+    (m : MapRow) → AreWays L ms old → IsWayFor L ms i k m → new ≡ old ++ m ∷ []
     → Provides L ms Needed i k old new
-provides {L} {ms} {Needed} {i} {k} {old} {new} None W h e = subst (Provides L ms Needed i k old) (sym e) (record {
-  ways = W;
-  kept = kept_same;
-  had = λ n. absurd (h n);
-})
-provides {L} {ms} {Needed} {i} {k} {old} {new} (Some m) W h e = subst (Provides L ms Needed i k old) (sym e) (record {
+provides {L} {ms} {Needed} {i} {k} {old} m W h e = subst (Provides L ms Needed i k old) (sym e) (record {
   ways = record { each = All-push (IsWay L ms) old m W.each h.way };
   kept = record { kept = λ i k p. pair_left (m ∷ []) p };
   had = λ n. inr (pair_last old m h.from h.into);
@@ -87,20 +81,6 @@ pub found_stored : {A : Type 0} {L : Lattice} {i k : ℕ} (found : Option A) (im
     → (m : List (List ℕ)) × Stored L i k m
 found_stored None images N B h e = cc
 found_stored (Some x) images N B h e = (images x, h.0)
-
--- no member so far has a map into k, nor the next one
-pub none_leads_more : (L : Lattice) (ms : List Member) (k n i : ℕ) → i ≡ number_at ms n
-    → ((x : ℕ) → x < n → ((m : List (List ℕ)) × Stored L (number_at ms x) k m) → ⊥)
-    → (((m : List (List ℕ)) × Stored L i k m) → ⊥)
-    → (x : ℕ) → x < n + 1 → ((m : List (List ℕ)) × Stored L (number_at ms x) k m) → ⊥
-none_leads_more L ms k n i e h none = below_more (λ x. ((m : List (List ℕ)) × Stored L (number_at ms x) k m) → ⊥) n h
-    (subst (λ j. ((m : List (List ℕ)) × Stored L j k m) → ⊥) e none)
-
--- so none reaches k
-pub none_reaches : (L : Lattice) (ms : List Member) (k n : ℕ) → length ms ≤ n
-    → ((x : ℕ) → x < n → ((m : List (List ℕ)) × Stored L (number_at ms x) k m) → ⊥)
-    → (a : ℕ) → IsReached L ms a k → ⊥
-none_reaches L ms k n end none a r = none r.through (let w = r.within in omega (arith, w, end)) r.exit.is_stored
 
 -- one that finds none
 pub stored_none : {L : Lattice} {i k : ℕ} {m : List (List ℕ)} → get L.maps (i, k) ≡ None → Stored L i k m → ⊥

@@ -12,13 +12,16 @@
 --     IsReached L ms a k    so it is through some place b
 --     AreAtHome L ms        members with stored maps begin in their fields of L
 --     IsWayFor L ms i k m   m is such a map from i to k
---     IsAdded old map new   `new` is `old` and then the map, if there is one
+--     Leads L ms b k        L has a map from the b-th member to k
+--     AreExits L ms k n exits     for each degree, a place below n of a member that leads into k and
+--                           that a field of this degree goes into, if there is one
 --     HasPlace ms k         a member has the number k
 --     AreAllWays L ms maps  these maps are such, and enough of them
-use Rattle.std.specs.Prelude.{◌≡◌, ◌⊎◌, ℕ, ◌<◌, List, [], ◌∷◌, ◌++◌, length, slice_index_or, Option, MatchOption}
+use Rattle.std.specs.Prelude.{◌≡◌, ◌⊎◌, ℕ, ◌+◌, ◌<◌, List, length, slice_index_or, Option, Some, None}
 use Prim.Native.Nat.{◌∣◌}
 use Rattle.alg_model.specs.Maps.{degree_of, comp}
 use Rattle.alg_model.specs.Lattices.{Lattice, Stored, field_at}
+use Rattle.ff_poly.specs.declared.TheConstants.{MAX_DEGREE}
 use Rattle.ff_embed.specs.SmallEmbeddings.{FieldMap}
 use Rattle.lat_core.specs.declared.rows.MapRow.{MapRow}
 use Rattle.lat_core.specs.SharedRows.{IsBetween}
@@ -89,9 +92,21 @@ pub record IsWayFor (L : Lattice) (ms : List Member) (i k : ℕ) (m : MapRow) : 
   pub from : m.from ≡ i
   pub into : m.into ≡ k
 
--- if there is one, it was appended
-abbrev pub IsAdded : List MapRow → Option MapRow → List MapRow → Type 0
-IsAdded old map new = MatchOption map (new ≡ old) (λ m. new ≡ old ++ m ∷ [])
+-- the b-th member has a map into k
+abbrev pub Leads : Lattice → List Member → ℕ → ℕ → Type 0
+Leads L ms b k = (m : List (List ℕ)) × Stored L (number_at ms b) k m
+
+-- for each degree, a place below n of a member that it divides the degree of and that leads into k,
+-- exactly where there is one
+pub record AreExits (L : Lattice) (ms : List Member) (k n : ℕ) (exits : List (Option ℕ))
+    : Type 0 where
+  pub count : length exits ≡ MAX_DEGREE + 1
+  pub below : (d b : ℕ) → slice_index_or exits d None ≡ Some b → b < n
+  pub leads : (d b : ℕ) → slice_index_or exits d None ≡ Some b → Leads L ms b k
+  pub divides : (d b : ℕ) → slice_index_or exits d None ≡ Some b
+      → d ∣ degree_of (map_at ms b).source
+  pub all : (d b : ℕ) → b < n → Leads L ms b k → d ∣ degree_of (map_at ms b).source
+      → slice_index_or exits d None ≡ None → ⊥
 
 -- a member has this number
 pub record HasPlace (ms : List Member) (k : ℕ) : Type 0 where

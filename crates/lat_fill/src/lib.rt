@@ -3,6 +3,7 @@
 #![tactic(auto)]
 
 mod degrees;
+mod exits;
 mod filling;
 mod links;
 mod made;

@@ -1,21 +1,19 @@
 //! The maps between the fields that go into the target.
-ghost use Rattle.std.specs.Prelude.{◌↔◌, ℕ, ◌<◌, List, MatchOption, IfOk, OnOk, IsTrue, length};
-ghost use Rattle.alg_model.specs.Lattices.{Lattice, Stored};
+ghost use Rattle.std.specs.Prelude.{◌≡◌, ◌↔◌, ℕ, ◌<◌, ◌++◌, ◌∷◌, [], List, IfOk, OnOk, IsTrue, length};
+ghost use Rattle.alg_model.specs.Lattices.{Stored};
 ghost use Rattle.lat_world.specs.Worlds.{AreMembers};
 ghost use Rattle.lat_fill.specs.PrivateListing.{number_at};
 ghost use Rattle.lat_fill.specs.PrivateWays.{AreWays, IsHad, Keeps, Provides, Goes};
-ghost use Rattle.lat_fill.specs.PrivateWays.{IsWayFor, IsAdded};
 
 use lat_core::{Lattice, MapRow, NoMemory};
 use lat_world::{Member, World};
 
-// Appends a map, if there is one.
-pub(crate) fn add(maps: &mut Vec<MapRow>, map: Option<MapRow>) -> Result<(), NoMemory>
-    ensures { OnOk result (IsAdded maps.old.items map maps.new.items) }
+// Appends a map.
+#[inline(always)]
+pub(crate) fn add(maps: &mut Vec<MapRow>, map: MapRow) -> Result<(), NoMemory>
+    ensures { OnOk result (maps.new.items ≡ maps.old.items ++ map ∷ []) }
 {
-    if let Some(map) = map {
-        maps.push(map)?;
-    }
+    maps.push(map)?;
     Ok(())
 }
 
@@ -35,23 +33,7 @@ pub(crate) fn goes(members: &[Member], a: usize, b: usize) -> bool
     members[b].map.source_degree() % members[a].map.source_degree() == 0
 }
 
-// The map from the `a`-th to the `b`-th member that agrees with their maps into the target; None
-// exactly where the degree of the one doesn't divide that of the other.
-fn link(members: &[Member], a: usize, b: usize) -> Option<MapRow>
-    requires members { AreMembers members.now }
-    requires first { a < length members.now }
-    requires second { b < length members.now }
-    ensures { (L : Lattice) → MatchOption result (Goes members.now a b → ⊥)
-        (IsWayFor L members.now (number_at members.now a) (number_at members.now b)) }
-{
-    let (from, into) = (members[a].number, members[b].number);
-    match World::of(members).forced(a, b) {
-        Some(map) => Some(MapRow { from, into, map }),
-        None => None,
-    }
-}
-
-// Appends this map, if there is one.
+// Appends the map from the `a`-th to the `b`-th member that agrees with their maps into the target.
 #[inline(never)]
 fn push_link(
     lattice: &Lattice,
@@ -63,11 +45,14 @@ fn push_link(
     requires members { AreMembers members.now }
     requires first { a < length members.now }
     requires second { b < length members.now }
+    requires goes { Goes members.now a b }
     requires ways { AreWays lattice.now members.now maps.old.items }
     ensures { OnOk result (Provides lattice.now members.now (Goes members.now a b)
         (number_at members.now a) (number_at members.now b) maps.old.items maps.new.items) }
 {
-    add(maps, link(members, a, b))
+    let (from, into) = (members[a].number, members[b].number);
+    let map = World::of(members).link(a, b);
+    add(maps, MapRow { from, into, map })
 }
 
 // Appends the map from the `a`-th to the `b`-th member, if there is one and the lattice has none

@@ -1,101 +1,59 @@
 //! The maps out of the fields that go into the target, into fields that don't.
-ghost use Rattle.std.specs.Prelude.{◌↔◌, ℕ, ◌<◌, MatchOption, OnOk, IsTrue, length};
-ghost use Rattle.std.specs.Bool.{OnFalse};
+ghost use Rattle.std.specs.Prelude.{◌↔◌, ℕ, ◌<◌, OnOk, IsTrue, length};
 ghost use Rattle.lat_world.specs.Worlds.{AreMembers};
 ghost use Rattle.lat_fill.specs.PrivateListing.{number_at};
 ghost use Rattle.lat_fill.specs.PrivateWays.{AreWays, IsHad, Keeps, Provides, IsExit, IsReached};
-ghost use Rattle.lat_fill.specs.PrivateWays.{IsWayFor, AreAtHome, HasPlace};
+ghost use Rattle.lat_fill.specs.PrivateWays.{AreAtHome, AreExits, HasPlace};
 
-use crate::links::{add, goes, is_stored};
+use crate::exits::exits_to;
+use crate::links::{add, is_stored};
 use lat_core::{Lattice, MapRow, NoMemory};
 use lat_world::{Member, World};
 
-// The map from the `a`-th member to the `b`-th, and then the stored one to field `k`; None exactly
-// where there is none.
-fn outlet_through(
-    lattice: &Lattice,
-    members: &[Member],
-    a: usize,
-    b: usize,
-    k: u32,
-) -> Option<MapRow>
-    requires members { AreMembers members.now }
-    requires home { AreAtHome lattice.now members.now }
-    requires first { a < length members.now }
-    requires second { b < length members.now }
-    ensures { MatchOption result (IsExit lattice.now members.now a b k → ⊥)
-        (IsWayFor lattice.now members.now (number_at members.now a) k) }
-{
-    match lattice.map(members[b].number, k) {
-        None => None,
-        Some(stored) => match World::of(members).forced(a, b) {
-            None => None,
-            Some(link) => Some(MapRow {
-                from: members[a].number,
-                into: k,
-                map: link.compose(stored),
-            }),
-        },
-    }
-}
-
-// Whether there is such a map.
-fn is_exit(lattice: &Lattice, members: &[Member], a: usize, b: usize, k: u32) -> bool
-    requires first { a < length members.now }
-    requires second { b < length members.now }
-    ensures { IsTrue result ↔ IsExit lattice.now members.now a b k }
-{
-    goes(members, a, b) && is_stored(lattice, members[b].number, k)
-}
-
-// A map from the `a`-th member to field `k`, through the first member that has a stored one; None
-// exactly where there is none.
-fn outlet(lattice: &Lattice, members: &[Member], a: usize, k: u32) -> Option<MapRow>
-    requires members { AreMembers members.now }
-    requires home { AreAtHome lattice.now members.now }
-    requires place { a < length members.now }
-    ensures { MatchOption result (IsReached lattice.now members.now a k → ⊥)
-        (IsWayFor lattice.now members.now (number_at members.now a) k) }
-{
-    for b in 0..members.len() {
-        if is_exit(lattice, members, a, b, k) {
-            return outlet_through(lattice, members, a, b, k);
-        }
-    }
-    None
-}
-
-// Appends this map, if there is one.
+// Appends the map from the `a`-th member to the `b`-th, and then the stored one to field `k`.
 #[inline(never)]
 fn push_outlet(
     lattice: &Lattice,
     members: &[Member],
     a: usize,
+    b: usize,
     k: u32,
     maps: &mut Vec<MapRow>,
 ) -> Result<(), NoMemory>
     requires members { AreMembers members.now }
     requires home { AreAtHome lattice.now members.now }
-    requires place { a < length members.now }
+    requires first { a < length members.now }
+    requires second { b < length members.now }
+    requires exit { IsExit lattice.now members.now a b k }
     requires ways { AreWays lattice.now members.now maps.old.items }
     ensures { OnOk result (Provides lattice.now members.now (IsReached lattice.now members.now a k)
         (number_at members.now a) k maps.old.items maps.new.items) }
 {
-    add(maps, outlet(lattice, members, a, k))
+    let from = members[a].number;
+    let link = World::of(members).link(a, b);
+    match lattice.map(members[b].number, k) {
+        None => unreachable!(),
+        Some(stored) => {
+            let map = link.compose(stored);
+            add(maps, MapRow { from, into: k, map })
+        }
+    }
 }
 
-// Appends a map from the `a`-th member to field `k`, if there is one and the lattice has none for
-// the pair.
-fn add_outlet(
+// The same, where the lattice has no map for the pair.
+fn add_outlet_through(
     lattice: &Lattice,
     members: &[Member],
     a: usize,
+    b: usize,
     k: u32,
     maps: &mut Vec<MapRow>,
 ) -> Result<(), NoMemory>
     requires members { AreMembers members.now }
     requires home { AreAtHome lattice.now members.now }
-    requires place { a < length members.now }
+    requires first { a < length members.now }
+    requires second { b < length members.now }
+    requires exit { IsExit lattice.now members.now a b k }
     requires ways { AreWays lattice.now members.now maps.old.items }
     ensures { OnOk result (Provides lattice.now members.now (IsReached lattice.now members.now a k)
         (number_at members.now a) k maps.old.items maps.new.items) }
@@ -103,19 +61,32 @@ fn add_outlet(
     if is_stored(lattice, members[a].number, k) {
         return Ok(());
     }
-    push_outlet(lattice, members, a, k, maps)
+    push_outlet(lattice, members, a, b, k, maps)
 }
 
-// Whether a member has a stored map into field `k`.
-fn leads_to(lattice: &Lattice, members: &[Member], k: u32) -> bool
-    ensures { OnFalse result ((a : ℕ) → IsReached lattice.now members.now a k → ⊥) }
+// Appends a map from the `a`-th member to field `k`, if there is one and the lattice has none for
+// the pair.
+fn add_outlet(
+    lattice: &Lattice,
+    members: &[Member],
+    exits: &[Option<u8>],
+    a: usize,
+    k: u32,
+    maps: &mut Vec<MapRow>,
+) -> Result<(), NoMemory>
+    requires members { AreMembers members.now }
+    requires home { AreAtHome lattice.now members.now }
+    requires exits { AreExits lattice.now members.now k (length members.now) exits.now }
+    requires place { a < length members.now }
+    requires ways { AreWays lattice.now members.now maps.old.items }
+    ensures { OnOk result (Provides lattice.now members.now (IsReached lattice.now members.now a k)
+        (number_at members.now a) k maps.old.items maps.new.items) }
 {
-    for member in members {
-        if is_stored(lattice, member.number, k) {
-            return true;
-        }
+    let degree = members[a].map.source_degree();
+    match exits[degree as usize] {
+        None => Ok(()),
+        Some(b) => add_outlet_through(lattice, members, a, b as usize, k, maps),
     }
-    false
 }
 
 // Appends the maps into field `k`.
@@ -134,11 +105,9 @@ fn add_outlets_to(
         → IsReached lattice.now members.now a k
         → IsHad lattice.now maps.new.items (number_at members.now a) k) }
 {
-    if !leads_to(lattice, members, k) {
-        return Ok(());
-    }
+    let exits = exits_to(lattice, members, k);
     for a in 0..members.len() {
-        add_outlet(lattice, members, a, k, maps)?;
+        add_outlet(lattice, members, &exits, a, k, maps)?;
     }
     Ok(())
 }

@@ -4,10 +4,11 @@ use Rattle.std.proofs.lemmas.Bool.{cases_order}
 use Rattle.std.proofs.lemmas.List.{get_or_default}
 use Rattle.std.proofs.lemmas.Nat.Gcd.{dvd_of_mod-eq-zero, mod-eq-zero_of_dvd}
 use Prim.Native.Nat.{◌∣◌}
-use Rattle.alg_model.specs.Maps.{IsEmbedding}
+use Rattle.alg_model.specs.Maps.{degree_of, IsEmbedding}
 use Rattle.alg_galois.proofs.Embeddings.{comp_cancel}
 use Rattle.alg_choices.specs.Degrees.{InClosure}
 use Rattle.alg_choices.specs.Degrees as Choices
+use Rattle.ff_embed.specs.SmallEmbeddings.{FieldMap}
 use Rattle.ff_meet.specs.Degrees.{Holds}
 use Rattle.ff_meet.specs.Degrees as Sets
 use Rattle.lat_world.specs.declared.members.Member.{Member}
@@ -44,6 +45,12 @@ divided {m} {n} {x} {y} e f z = dvd_of_mod-eq-zero y (sym (ap₂ (λ i j. i % j)
 -- a remainder that isn't zero
 pub not_divided : {m n x y : ℕ} → m ≡ x → n ≡ y → m % n ≢ 0 → y ∣ x → ⊥
 not_divided {m} {n} {x} {y} e f fails d = fails (ap₂ (λ i j. i % j) e f ∙ mod-eq-zero_of_dvd y d)
+
+-- the degrees of two members divide as those of their maps do
+pub divides_places : {x y u v : FieldMap} → x ≡ u → y ≡ v → degree_of u.source ∣ degree_of v.source
+    → degree_of x.source ∣ degree_of y.source
+divides_places {x} {y} {u} {v} e f d = subst (λ m. degree_of m.source ∣ degree_of y.source) (sym e)
+    (subst (λ m. degree_of u.source ∣ degree_of m.source) (sym f) d)
 
 -- the maps of any two members end in one field
 pub one_target : {ms : List Member} → AreMembers ms → (a b : ℕ) → a < length ms → b < length ms

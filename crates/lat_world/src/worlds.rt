@@ -72,6 +72,20 @@ impl<'m> World<'m> {
         Some(Embedding::through(from, into))
     }
 
+    /// The one map from the `a`-th to the `b`-th member, counted from 0, which, followed by the map
+    /// of the `b`-th, is that of the `a`-th; the degree of the `a`-th divides that of the `b`-th.
+    pub fn link(&self, a: usize, b: usize) -> Embedding
+        requires first { a < length self.now }
+        requires second { b < length self.now }
+        requires divides { degree_of (map_at self.now a).source
+            ∣ degree_of (map_at self.now b).source }
+        ensures forced { IsForcedBetween self.now a b result }
+        ensures whole { IsSmallEmbedding result }
+    {
+        let members = self.members();
+        Embedding::through(&members[a].map, &members[b].map)
+    }
+
     // The members.
     fn members(&self) -> &[Member]
         ensures value { result.now ≡ self.now }

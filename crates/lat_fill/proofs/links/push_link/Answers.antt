@@ -1,6 +1,16 @@
+use Rattle.std.proofs.Common.{subst, sym}
+use Prim.Native.Nat.{◌∣◌}
 use Rattle.std.proofs.lemmas.Result.{on_ok_weaker}
-use Rattle.lat_fill.proofs.WayLists.{provides}
+use Rattle.alg_model.specs.Maps.{degree_of}
+use Rattle.lat_world.specs.Worlds.{IsForcedBetween, map_at}
+use Rattle.lat_fill.proofs.WayLists.{provides, link_way}
 use Rattle.lat_fill.proofs.links.push_link.Goals as goal
 
+pub link-map-requires-clause-divides : goal.link-map-requires-clause-divides
+link-map-requires-clause-divides c = subst (λ ms. degree_of (map_at ms c.args.a).source ∣ degree_of (map_at ms c.args.b).source)
+    (sym c.of.ensures) c.requires.goes
+
 pub returns : goal.returns
-returns c = on_ok_weaker c.add.result (λ e. provides c.link.result c.requires.ways (c.link.ensures c.args.lattice.now) e) c.add.ensures
+returns c = on_ok_weaker c.add.result (λ e. provides _ c.requires.ways
+    (link_way c.args.a c.args.b c.index-members-a.result c.index-members-b.result c.link-map.result c.requires.first c.requires.second
+    (subst (λ ms. IsForcedBetween ms c.args.a c.args.b c.link-map.result) c.of.ensures c.link-map.ensures.forced)) e) c.add.ensures

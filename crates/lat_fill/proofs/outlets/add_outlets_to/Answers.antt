@@ -14,6 +14,3 @@ loop-a-preserved c =
           → IsHad c.args.lattice.now c.add_outlet.new.maps.items (number_at c.args.members.now x) c.args.k) c.loop-a.a
           (λ x h g. had_kept s.kept (c.loop-a.invariant.linked x h g)) s.had;
     }
-
-pub returns-then-not-leads_to-clause-linked : goal.returns-then-not-leads_to-clause-linked
-returns-then-not-leads_to-clause-linked c = λ a la r. absurd (c.if-not-leads_to.ensures a r)

@@ -1,6 +1,30 @@
+use Rattle.std.proofs.Common.{subst, sym}
+use Prim.Native.Nat.{◌∣◌}
 use Rattle.std.proofs.lemmas.Result.{on_ok_weaker}
-use Rattle.lat_fill.proofs.WayLists.{provides}
+use Rattle.alg_model.specs.Maps.{degree_of}
+use Rattle.alg_model.specs.Lattices.{Stored}
+use Rattle.lat_world.specs.Worlds.{map_at, IsForcedBetween}
+use Rattle.lat_fill.proofs.WayLists.{provides, exit_way, meets, number_is, stored_none}
 use Rattle.lat_fill.proofs.outlets.push_outlet.Goals as goal
 
+pub link-link-requires-clause-divides : goal.link-link-requires-clause-divides
+link-link-requires-clause-divides c = subst (λ ms. degree_of (map_at ms c.args.a).source ∣ degree_of (map_at ms c.args.b).source)
+    (sym c.of.ensures) c.requires.exit.divides
+
+pub unreachable-requires : goal.unreachable-requires
+unreachable-requires c = stored_none c.in-None.ensures
+    (subst (λ i. Stored c.args.lattice.now i c.args.k c.requires.exit.is_stored.0)
+    (sym (number_is c.args.members.now c.args.b c.index-members-b.result c.requires.second)) c.requires.exit.is_stored.1)
+
+pub compose-map-requires : goal.compose-map-requires
+compose-map-requires c = meets c.args.a c.args.b c.args.k _ c.link-link.result c.in-Some.stored.now c.requires.home c.requires.second
+    (number_is c.args.members.now c.args.b c.index-members-b.result c.requires.second)
+    (subst (λ ms. IsForcedBetween ms c.args.a c.args.b c.link-link.result) c.of.ensures c.link-link.ensures.forced)
+    c.in-Some.ensures
+
 pub returns : goal.returns
-returns c = on_ok_weaker c.add.result (λ e. provides c.outlet.result c.requires.ways c.outlet.ensures e) c.add.ensures
+returns c = on_ok_weaker c.add.result (λ e. provides _ c.requires.ways
+    (exit_way c.args.a c.args.b c.args.k _ c.index-members-a.result c.link-link.result c.in-Some.stored.now c.compose-map.result
+    c.requires.first c.requires.second (number_is c.args.members.now c.args.b c.index-members-b.result c.requires.second)
+    (subst (λ ms. IsForcedBetween ms c.args.a c.args.b c.link-link.result) c.of.ensures c.link-link.ensures.forced)
+    c.in-Some.ensures c.compose-map.ensures.source c.compose-map.ensures.target c.compose-map.ensures.images) e) c.add.ensures
