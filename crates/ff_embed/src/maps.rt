@@ -54,8 +54,8 @@ impl Embedding {
         self.images().apply(a.digits())
     }
 
-    /// The value of which `b` is the image; `None` exactly where `b` isn't in the image. There is
-    /// at most one.
+    /// A value of which `b` is the image; `None` exactly where `b` isn't in the image. There is at
+    /// most one, as `alg_galois` proves of embeddings.
     pub fn preimage(&self, b: &Value) -> Option<Value>
         requires { (field_values self.now.target).Valid b.now }
         ensures some { IsSome result ↔ IsInImage self.now b.now }

@@ -14,10 +14,11 @@ use crate::columns::matrix_by_powers;
 use ff_matrix::Matrix;
 use ff_poly::{MAX_DEGREE, Poly};
 
-/// A certificate that a polynomial `f` of degree `n` is irreducible (Berlekamp 1970).
+/// A certificate that a polynomial `f` of degree `n` is irreducible (Berlekamp 1970), where `check`
+/// finds that it holds; any three parts make a `Cert`.
 ///
-/// It shows that `f` has no repeated factor, by `u * f + w * f' = 1`, and that only constants are
-/// their own power `p` modulo `f`: a product of two coprime factors would have other such
+/// It shows then that `f` has no repeated factor, by `u * f + w * f' = 1`, and that only constants
+/// are their own power `p` modulo `f`: a product of two coprime factors would have other such
 /// polynomials too.
 #[derive(Drop)]
 pub struct Cert {
@@ -53,7 +54,8 @@ pub fn certificates_are_sound()
         → IsIrreducible (residues f.prime) f.coefficients }
 {}
 
-/// Whether a certificate holds for `f`, so that `f` is irreducible. It is worked out here anew.
+/// Whether a certificate holds for `f`, so that `f` is irreducible. What it says is worked out here
+/// anew.
 ///
 /// `f` is monic, of degree 1 to `MAX_DEGREE`.
 pub fn check(f: &Poly, cert: &Cert) -> bool

@@ -13,8 +13,7 @@ use ff_poly::{MAX_DEGREE, MAX_POLY, Poly, Prime};
 
 /// The first monic irreducible polynomial of degree `d` in the order of polynomials.
 ///
-/// `d` is 1 to `MAX_DEGREE`. The polynomials are judged one after the other, from `x^d` on; about
-/// one in `d` is irreducible.
+/// `d` is 1 to `MAX_DEGREE`. The polynomials are judged one after the other, from `x^d` on.
 pub fn least_irreducible(p: Prime, d: u32) -> Poly
     requires { (0 < d) × (d ≤ MAX_DEGREE) }
     ensures prime { result.prime ≡ p }

@@ -8,8 +8,8 @@ ghost use Rattle.ff_factor.specs.PrivateSplitting.{IsLeastNegativeRoot};
 
 use ff_poly::{Poly, Prime};
 
-/// The least factor `x + c` of `f`, where `f` is of degree above 1 and has one: the first `c` where
-/// `f(-c) = 0`.
+/// The least factor of `f`: `x + c` for the first `c` where `f(-c) = 0`, if `f` is of degree above
+/// 1. That there is none where it answers `None`, no clause says.
 pub(crate) fn linear_factor(f: &Poly) -> Option<Poly>
     ensures prime { IfSome result (λ g. g.prime ≡ f.now.prime) }
     ensures least { IfSome result

@@ -15,7 +15,8 @@ use ff_poly::{MAX_DEGREE, Prime, compare_places};
 use std::cmp::Ordering;
 use std::marker::Model;
 
-/// A value of a field: its digits, lowest first.
+/// The digits of a value of a field, lowest first: at most `MAX_DEGREE` numbers. Of which fields it
+/// is a value, their number and their size decide. Of `default` no clause says what it gives.
 #[derive(Default, Drop)]
 pub struct Value {
     digits: ArrayVec<u8, MAX_DEGREE>,

@@ -2,7 +2,7 @@
 //! allocation.
 //!
 //! The subfields of a finite field that a lattice stores have such degrees; two of them meet in a
-//! field of degree gcd.
+//! field of degree gcd, as `alg_galois` proves. The clauses here speak of numbers alone.
 #![tactic(auto)]
 
 mod gcds;

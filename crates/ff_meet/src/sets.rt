@@ -51,12 +51,11 @@ impl DegreeSet {
 
     /// The least set that holds the degrees of this one, and with any two of its own their greatest
     /// common divisor.
-    ///
-    /// A degree stands in it exactly where it is the greatest common divisor of all members that it
-    /// divides.
     pub fn closure(&self) -> DegreeSet
         ensures { (d : ℕ) → Holds result d ↔ InClosure self.now d }
     {
+        // A degree stands in it where it is the greatest common divisor of the members that it
+        // divides.
         let _held = &self.held;
         let mut held = nothing();
         for d in 1..PLACES {

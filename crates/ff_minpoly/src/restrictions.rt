@@ -12,12 +12,11 @@ use ff_field::{Field, Value};
 use ff_poly::MAX_POLYX;
 use ff_polyx::PolyX;
 
-/// The polynomial over the target of `into` whose roots are the images of the generator of the
-/// target of `sub` under the embeddings that agree with `into` on the source of `sub`.
+/// A monic polynomial over the target of `into` whose roots there are the images of the generator
+/// of the target of `sub` under the embeddings that agree with `into` on the source of `sub`.
 ///
-/// `sub` and `into` start from one field D. It is the minimal polynomial over D of the generator of
-/// the target of `sub`, its coefficients taken by `into`; so its degree is that of the target of
-/// `sub` over D.
+/// `sub` and `into` start from one field D, and the degree is that of the target of `sub` over D.
+/// Where there is no such embedding, there is no root, and the clauses don't determine it.
 pub fn restricted(sub: &Embedding, into: &Embedding) -> PolyX
     requires { sub.now.source ≡ into.now.source }
     ensures polynomial { IsPolynomial (field_values into.now.target) result }

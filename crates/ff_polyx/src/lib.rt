@@ -1,6 +1,7 @@
 //! Polynomials over a finite field, in a fixed room and without allocation.
 //!
-//! Coefficients stand lowest first. The last one isn't zero, so that the zero polynomial has none.
+//! Coefficients stand lowest first. The last one of a polynomial over a field (`IsPolynomial`) is
+//! not zero there, so that the zero polynomial has none.
 #![tactic(auto)]
 
 mod division;

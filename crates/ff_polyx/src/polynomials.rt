@@ -51,7 +51,7 @@ impl PolyX {
         }
     }
 
-    /// The coefficients, lowest first; the last one isn't zero.
+    /// The coefficients, lowest first; of a polynomial over a field the last one isn't zero there.
     pub fn coefficients(&self) -> &[Value]
         ensures value { result.now ≡ self.now }
         ensures whole { length self.now ≤ MAX_POLYX }

@@ -17,8 +17,8 @@ use ff_field::{Field, Value};
 use ff_poly::{MAX_DEGREE, MAX_POLYX, Poly};
 use ff_polyx::PolyX;
 
-/// All roots in the field of `f`, which is monic and irreducible over its prime field, of degree 1
-/// to `MAX_DEGREE`: as many as the degree, or none where it doesn't divide that of the field.
+/// All roots in the field of `f`, each once, least first. `f` is monic and irreducible over the
+/// prime field, of degree 1 to `MAX_DEGREE`.
 pub fn conjugate_roots(field: &Field, f: &Poly) -> RootList
     requires prime { f.now.prime ≡ field.now.characteristic }
     requires monic { IsMonic (residues f.now.prime) f.now.coefficients }

@@ -1,7 +1,7 @@
 //! Roots of polynomials in a finite field, by traces.
 //!
-//! Lists of roots stand least first, in the order of values: from the highest place down, at the
-//! first difference.
+//! The lists of roots that are given stand least first, in the order of values: from the highest
+//! place down, at the first difference.
 #![tactic(auto)]
 
 mod conjugates;

@@ -10,7 +10,8 @@ use ff_lists::BoundedList;
 use ff_poly::MAX_DEGREE;
 use std::cmp::Ordering;
 
-/// At most `MAX_DEGREE` values, least first.
+/// At most `MAX_DEGREE` values. The calls that give roots put the least first; the type keeps no
+/// order.
 pub type RootList = BoundedList<Value, MAX_DEGREE>;
 
 // Puts a value that isn't in the list before the first that comes after it.
