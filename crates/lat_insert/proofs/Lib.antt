@@ -6,4 +6,6 @@ mod Declarations
 mod Insertions
 mod Replies
 mod ForcedAdditions
+mod MappedLists
+mod PairLists
 mod StepsTaken
