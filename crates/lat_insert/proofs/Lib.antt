@@ -8,4 +8,6 @@ mod Replies
 mod ForcedAdditions
 mod MappedLists
 mod PairLists
+mod Wording
+mod WordedInsertions
 mod StepsTaken

@@ -2,3 +2,4 @@ pub mod Insertions
 pub mod PrivateDeclaring
 pub mod PrivateEmbedding
 pub mod Theorems
+pub mod Wording

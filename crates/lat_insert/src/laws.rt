@@ -1,10 +1,24 @@
 //! Laws of steps: functions that do nothing, whose clauses are the laws.
 
 ghost use Rattle.lat_insert.specs.Theorems.{MadeFieldsAreForced, LinkedMapsAreForced};
+ghost use Rattle.lat_insert.specs.Wording.{FillingIsAsWorded, InsertionIsAsWorded};
+ghost use Rattle.lat_insert.specs.Wording.{LinkedPairsAreStored, StoredMapsAreAsWorded};
+ghost use Rattle.lat_insert.specs.Wording.{AdditionsAreCounted};
 
 /// What an insertion adds is forced: no compatible lattice that has grown and stores the new map
 /// does with less.
 pub fn insertions_are_forced()
     ensures fields { MadeFieldsAreForced }
     ensures maps { LinkedMapsAreForced }
+{}
+
+/// What an insertion adds is what the rule of filling says as it is told: of two members whose
+/// degrees divide, the one map that agrees with their maps into the target; out of a member, the
+/// map through the least member that leads on; all else is as before.
+pub fn insertions_are_as_worded()
+    ensures filling { FillingIsAsWorded }
+    ensures insertion { InsertionIsAsWorded }
+    ensures pairs { LinkedPairsAreStored }
+    ensures kept { StoredMapsAreAsWorded }
+    ensures counted { AdditionsAreCounted }
 {}

@@ -8,5 +8,5 @@ mod laws;
 mod room;
 mod steps;
 
-pub use laws::insertions_are_forced;
+pub use laws::{insertions_are_as_worded, insertions_are_forced};
 pub use steps::step;
