@@ -1,4 +1,5 @@
 pub mod ValueSums
+pub mod ValueMultiples
 pub mod RootInsertion
 pub mod Cofactors
 pub mod Collecting

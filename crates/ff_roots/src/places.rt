@@ -1,11 +1,11 @@
 //! Lists of values as slices.
-ghost use Rattle.std.specs.Prelude.{◌≡◌, ℕ, List, ◌<◌, ◌≤◌, All, length, replicate};
+ghost use Rattle.std.specs.Prelude.{◌≡◌, ℕ, List, ◌+◌, ◌*◌, ◌%◌, ◌<◌, ◌≤◌, All, length, replicate, slice_index};
 ghost use Rattle.alg_model.specs.Polynomials.{evaluate};
-ghost use Rattle.alg_model.specs.Maps.{field_values, constants};
+ghost use Rattle.alg_model.specs.Maps.{field_values, constant, constants};
 
 use arrayvec::ArrayVec;
 use ff_field::{Field, Value};
-use ff_poly::MAX_DEGREE;
+use ff_poly::{MAX_DEGREE, Prime};
 
 // n zeros.
 pub(crate) fn zeros(field: &Field, n: usize) -> ArrayVec<Value, MAX_DEGREE>
@@ -34,9 +34,52 @@ pub(crate) fn add_residue_multiples(field: &Field, places: &mut [Value], v: &Val
 {
     let _prime = field.prime();
     for l in 0..residues.len() {
-        let multiple = field.mul(v, &field.of_residue(residues[l]));
-        places[l] = field.add(&places[l], &multiple);
+        places[l] = with_multiple(field, &places[l], v, residues[l]);
     }
+}
+
+// The sum a + c v for a residue c.
+fn with_multiple(field: &Field, a: &Value, v: &Value, c: u8) -> Value
+    requires first { (field_values field.now).Valid a.now }
+    requires second { (field_values field.now).Valid v.now }
+    requires residue { c < field.now.characteristic }
+    ensures value { let o = (field_values field.now).ops in
+        result ≡ o.add a.now (o.mul v.now (constant field.now c)) }
+    ensures valid { (field_values field.now).Valid result }
+{
+    let n = field.degree() as usize;
+    if c == 0 {
+        return a.copy();
+    }
+    let row = row_with_multiple(field.prime(), a.digits(), v.digits(), c);
+    Value::of_digits(&row[..n])
+}
+
+// The same, digit by digit, with zeros after it.
+fn row_with_multiple(p: Prime, a: &[u8], v: &[u8], c: u8) -> [u8; MAX_DEGREE]
+    requires room { length a.now ≤ MAX_DEGREE }
+    requires same { length a.now ≡ length v.now }
+    requires first { All (λ x. x < p) a.now }
+    requires second { All (λ x. x < p) v.now }
+    requires residue { c < p }
+    ensures len { length result ≡ MAX_DEGREE }
+    ensures places { (k : ℕ) → k < length a.now
+        → slice_index result k ≡ (slice_index a.now k + c * slice_index v.now k) % p }
+{
+    let _number = p.number();
+    let mut row = blank_row();
+    for k in 0..a.len() {
+        row[k] = p.reduced(a[k] as u16 + c as u16 * v[k] as u16) as u8;
+    }
+    row
+}
+
+// Zeros.
+#[inline(always)]
+fn blank_row() -> [u8; MAX_DEGREE]
+    ensures { length result ≡ MAX_DEGREE }
+{
+    [0; MAX_DEGREE]
 }
 
 // Adds the multiples of a value by values to places.
