@@ -1,6 +1,6 @@
 //! Parts of a polynomial that has as many roots as its degree: those of the roots at which another
 //! polynomial has one value.
-ghost use Rattle.std.specs.Prelude.{◌≡◌, ◌≢◌, ℕ, ◌<◌, List, [], length, slice_index_or};
+ghost use Rattle.std.specs.Prelude.{◌≡◌, ◌≢◌, ◌⊎◌, ℕ, ◌<◌, List, [], length, slice_index_or};
 ghost use Rattle.alg_model.specs.Factors.{IsPolynomial, IsMonic, IsGreatestCommonDivisor};
 ghost use Rattle.alg_model.specs.Maps.{field_values, constant};
 ghost use Rattle.alg_fields.specs.Fixed.{less_constant};
@@ -34,7 +34,8 @@ pub(crate) fn part_at(field: &Field, part: &PolyX, trace: &PolyX, c: u8) -> Poly
     PolyX::gcd(field, part, &PolyX::sub(field, trace, &constant))
 }
 
-// The first of these parts that has a root.
+// The first of these parts that has a root; where the other polynomial is a constant, the part
+// itself.
 #[inline(never)]
 pub(crate) fn first_part(field: &Field, part: &PolyX, trace: &PolyX) -> PolyX
     requires splits { Splits field.now part.now }
@@ -42,11 +43,15 @@ pub(crate) fn first_part(field: &Field, part: &PolyX, trace: &PolyX) -> PolyX
     requires trace { IsPolynomial (field_values field.now) trace.now }
     requires constants { IsConstantAtRoots field.now part.now trace.now }
     ensures not_constant { 1 < length result }
-    ensures part { (c : ℕ) × (c < field.now.characteristic)
+    ensures part { ((length trace.now < 2) × (result ≡ part.now))
+        ⊎ ((c : ℕ) × (c < field.now.characteristic)
         × IsGreatestCommonDivisor (field_values field.now) part.now
-        (less_constant (field_values field.now).ops trace.now (constant field.now c)) result }
+        (less_constant (field_values field.now).ops trace.now (constant field.now c)) result) }
 {
     let _prime = field.prime();
+    if trace.coefficients().len() < 2 {
+        return part.copy();
+    }
     for c in 0..field.prime().number() {
         let next = part_at(field, part, trace, c);
         if next.coefficients().len() > 1 {

@@ -1,10 +1,10 @@
-use Rattle.std.proofs.Common.{◌≡◌, length, ap, sym, ◌∙◌, subst, arith, add-one}
+use Rattle.std.proofs.Common.{◌≡◌, ◌≤◌, suc, length, ap, sym, ◌∙◌, subst, arith, add-one, ⊎_elim}
 use Rattle.alg_model.specs.Coefficients.{power}
 use Rattle.alg_model.specs.Maps.{field_values, degree_of, generator, constants}
 use Rattle.alg_model.specs.Roots.{IsRoot}
 use Rattle.alg_splitting.specs.PrivateSearch.{IsTraceAtRoots, IsNarrowed}
 use Rattle.alg_splitting.proofs.RootTraces.{trace_constant_at_roots}
-use Rattle.alg_splitting.proofs.NarrowedRoots.{narrowed_start, narrowed_step, narrowed_end, narrowed_root}
+use Rattle.alg_splitting.proofs.NarrowedRoots.{narrowed_start, narrowed_step, narrowed_same, narrowed_end, narrowed_root}
 use Rattle.ff_roots.proofs.Narrowing.{traced_part}
 use Rattle.ff_roots.proofs.conjugates.root_of_part.Goals as goal
 
@@ -60,11 +60,15 @@ narrowing-preserved c =
     c.requires.splits.polynomial c.requires.divides h.narrowed a h.valid
     c.conjugate_trace-trace.result c.divrem-rest.result.0 rest
     c.conjugate_trace-trace.ensures.trace c.divrem-rest.ensures.division) in
-    let cut = c.first_part-part.ensures.part in
+    let vt = c.divrem-rest.ensures.division.remainder in
+    let next = c.first_part-part in
     record {
-      narrowed = rw add-one (narrowed_step F W whole k part h.narrowed rest
-          c.divrem-rest.ensures.division.remainder t cut.0 cut.1 c.first_part-part.result cut.2
-          c.first_part-part.ensures.not_constant);
+      narrowed = rw add-one (⊎_elim
+          (λ e. subst (IsNarrowed F whole (suc k)) (sym e.1)
+          (narrowed_same F W whole k part h.narrowed rest vt t (let l : length rest ≤ 1 = omega (arith, e.0) in l)))
+          (λ cut. narrowed_step F W whole k part h.narrowed rest vt t cut.0 cut.1 next.result cut.2
+          next.ensures.not_constant)
+          next.ensures.part);
       factor = rw add-one (c.mul-factor.ensures.value
           ∙ ap (λ x. o.mul x c.generator.result) h.factor
           ∙ ap (o.mul (power o (generator F) k)) c.generator.ensures.value);

@@ -15,7 +15,7 @@ loop-c-preserved c =
     S.polynomial c.requires.trace c.loop-c.c
     (omega (arith, c.number-c-end.ensures.value, c.prime.ensures.value)) c.part_at-next.result
     S.not_zero c.part_at-next.ensures v s (e ∙ ap (constant F) q) in
-    omega (arith, long, c.if-coefficients-gt1.false, ap length c.coefficients.ensures.value))
+    omega (arith, long, c.if-coefficients-gt1.false, ap length c.coefficients-in-loop-c.ensures.value))
     (λ (l : t < c.loop-c.c). c.loop-c.invariant v s t l e)
     (eq-or-lt_of_le (let m : t ≤ c.loop-c.c = omega arith in m))
 

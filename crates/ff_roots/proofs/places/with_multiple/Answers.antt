@@ -1,4 +1,4 @@
-use Rattle.std.proofs.Common.{◌≡◌, ◌+◌, ◌*◌, ◌%◌, length, take, slice_index, ap, ap₂, sym, ◌∙◌, subst, arith, length-take, get_or-take}
+use Rattle.std.proofs.Common.{◌+◌, ◌*◌, ◌%◌, length, take, slice_index, ap, ap₂, sym, ◌∙◌, subst, arith, length-take, get_or-take}
 use Rattle.alg_model.specs.Maps.{field_values, degree_of}
 use Rattle.ff_roots.proofs.ValueMultiples.{multiple_added, multiple_added_valid, nothing_added}
 use Rattle.ff_roots.proofs.places.with_multiple.Goals as goal
