@@ -8,6 +8,7 @@ use Rattle.lat_core.specs.declared.replies.Entry.{Entry}
 use Rattle.lat_language.specs.declared.commands.Command.{Command}
 use Rattle.lat_language.specs.declared.scripts.Script.{Script}
 use Rattle.lat_language.specs.declared.scripts.SessionScript.{SessionScript}
+use Rattle.lat_language.specs.Grammar.{session_commands}
 use Rattle.lat_language.specs.Texts.{session_text}
 use Rattle.lat_session.specs.Outcomes.{Operations}
 use Rattle.lat_history.specs.Books.{History}
@@ -102,6 +103,7 @@ module _ (operations : Operations) (h h₁ h₂ h₃ : History) (script : Script
       let second : h₂.edition ≡ h.edition = by_schedule.edition ∙ before.edition in
       record {
         edition = by_rest.edition ∙ second;
+        room = by_rest.room ∙ by_schedule.room ∙ before.room;
         world = w;
         solo = record {
           scheduled = scheduled;
@@ -193,15 +195,17 @@ sessions_shown script w h players p s some = first_and_others w.sessions players
 -- **what was played**
 pub performs : (operations : Operations) (edition : lattices.Edition) (h : History) (script : Script)
     (players : List Player) (performance : Performance) → h.edition ≡ edition
+    → h.room ≡ length script.prologue + session_commands script.sessions
     → HasSolo operations h script performance.book players
     → ((p : Player) → performance.lines.items
     ≡ (slice_index_or players 0 p).text.items ++ player_blocks script.sessions (drop 1 players))
     → Performs edition operations script performance
-performs operations edition h script [] performance of_edition solo lines = absurd (omega (arith, solo.all_players))
-performs operations edition h script (q ∷ players) performance of_edition solo lines = record {
+performs operations edition h script [] performance of_edition has_room solo lines = absurd (omega (arith, solo.all_players))
+performs operations edition h script (q ∷ players) performance of_edition has_room solo lines = record {
   world = solo.world;
   solo = subst (λ e. IsSolo e operations script solo.world) of_edition solo.solo;
   of_edition = solo.edition ∙ of_edition;
+  room = solo.room ∙ has_room;
   history = sym solo.shows.history;
   lines = lines q ∙ sessions_shown script solo.world performance.book (q ∷ players) q solo.shows (omega arith);
 }

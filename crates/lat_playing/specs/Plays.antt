@@ -2,7 +2,8 @@
 --     IsPlayable script       its commands are proper, a history has room for them all, and there
 --                             are not too many sessions
 --     Performs edition operations script performance     the history and the lines of the script
---                             when it is played by its schedule
+--                             when it is played by its schedule; the book has room for as many
+--                             entries as the script has commands
 use Rattle.std.specs.Prelude.{◌≡◌, ◌+◌, ◌≤◌, length, All}
 use Rattle.alg_model.specs.Lattices as lattices
 use Rattle.lat_language.specs.declared.scripts.Script.{Script}
@@ -29,5 +30,7 @@ pub record Performs (edition : lattices.Edition) (operations : Operations) (scri
   pub world : World
   pub solo : IsSolo edition operations script world
   pub of_edition : performance.book.edition ≡ edition
+  pub room : performance.book.room
+      ≡ length script.prologue + session_commands script.sessions
   pub history : performance.book.entries ≡ world.history
   pub lines : performance.lines.items ≡ sessions_text script world

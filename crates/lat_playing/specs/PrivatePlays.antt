@@ -142,6 +142,7 @@ module _ (operations : Operations) where
   pub record HasSolo (h : History) (script : Script) (h' : History) (players : List Player)
       : Type 0 where
     pub edition : h'.edition ≡ h.edition
+    pub room : h'.room ≡ h.room
     pub world : World
     pub solo : IsSolo h.edition operations script world
     pub shows : Shows world h' players
