@@ -15,13 +15,14 @@ use lat_core::{Lattice, Sending};
 
 /// The least value of field `into` to which the generator of field `from` may be sent so that the
 /// map agrees with all common subfields, and sends the first value of a prescribed pair to the
-/// second; `None` exactly where there is none. Takes no memory.
+/// second; `None` exactly where there is none. There is no answer for want of memory.
 ///
-/// The two fields have one characteristic, and a prescribed pair is a value of `from` and a value
+/// Both are numbers of fields, of one characteristic, and a prescribed pair is a value of `from` and a value
 /// of `into`; the numbers with which it is tagged are not looked at. The candidates are the common
 /// roots of the polynomial of `from` and of one polynomial over `into` for each common subfield
-/// that goes into no greater one (Bosma, Cannon and Steel, Lattices of compatibly embedded finite
-/// fields, 1997).
+/// of degree above 1 that goes into no other one that is greater, or of the same degree and of a
+/// lower number; and of one for a prescribed pair (Bosma, Cannon and Steel, Lattices of compatibly
+/// embedded finite fields, 1997).
 pub fn choice(lattice: &Lattice, from: u32, into: u32, sending: Option<&Sending>) -> Option<Value>
     requires fields { AreFields lattice.now from into }
     requires alike { AreAlike lattice.now from into }

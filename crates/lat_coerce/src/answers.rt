@@ -11,7 +11,7 @@ use ff_minpoly::{over_in, over_prime};
 use lat_core::{Answer, CoerceFault, FieldName, Lattice, Question, Tagged};
 
 /// The answer to a question that fits the lattice: its numbers are those of fields, and its values
-/// are values of theirs. Takes no memory.
+/// are values of theirs. There is no answer for want of memory.
 pub fn answer(lattice: &Lattice, question: &Question) -> Answer
     requires fits { Fits lattice.now question.now }
     ensures answer { Answers lattice.now question.now result }

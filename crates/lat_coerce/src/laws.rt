@@ -14,8 +14,8 @@ pub fn lifts_lead_back()
     ensures back { LiftLeadsBack }
 {}
 
-/// What a lift is answered, but for the want of both maps, it is answered in each lattice that
-/// grows from this one.
+/// What a lift is answered, but for the want of both maps, it is answered in each compatible
+/// lattice that grows from this one.
 pub fn answered_lifts_stay()
     ensures stays { AnsweredLiftStays }
 {}

@@ -1,7 +1,7 @@
 //! Answers to questions about a lattice of finite fields: values in other fields, common
 //! overfields, meets, subfields and minimal polynomials.
 //!
-//! In fixed room and without allocation.
+//! No call has an answer for want of memory.
 #![tactic(auto)]
 
 mod answers;

@@ -7,8 +7,8 @@ ghost use Rattle.lat_coerce.specs.PrivateSearches.{IsCommonSubfield, IsFirstOfDe
 use crate::lookups::{degree, is_stored};
 use lat_core::{Answer, CoerceFault, Lattice};
 
-/// The first field from which all values come that are images in `k` both of a value of `i` and of
-/// a value of `j`.
+/// The first field with maps into `i` and `j` from which all values come that are images in `k`
+/// both of a value of `i` and of a value of `j`.
 ///
 /// `NotEmbedded` exactly where `i`, or else `j`, has no map into `k`.
 ///
