@@ -3,6 +3,7 @@ mod EditionFields
 mod PrimeMaps
 mod Additions
 mod Declarations
+mod DeclarableFields
 mod Insertions
 mod Replies
 mod ForcedAdditions

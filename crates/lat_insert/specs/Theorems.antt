@@ -1,12 +1,20 @@
--- What an insertion adds is forced: in words, and as statements.
-use Rattle.std.specs.Prelude.{◌≡◌, ℕ, ◌<◌, ◌≤◌, List, length, Option}
+-- What an insertion adds is forced, and which fields are declared: in words, and as statements.
+use Rattle.std.specs.Prelude.{◌≡◌, ◌↔◌, ℕ, ◌+◌, ◌<◌, ◌≤◌, false, List, length, Contains, Option}
+use Rattle.alg_model.specs.Coefficients.{residues}
+use Rattle.alg_model.specs.Factors.{IsMonic, IsIrreducible}
+use Rattle.alg_model.specs.Values.{degree}
 use Rattle.alg_model.specs.Maps.{degree_of}
 use Rattle.alg_model.specs.Lattices.{Lattice, field_at, Stored, Grows, IsCompatible}
 use Rattle.alg_model.specs.Candidates.{embedding_by}
+use Rattle.lat_core.specs.declared.editions.Edition.{Edition}
 use Rattle.lat_core.specs.declared.tagged.Sending.{Sending}
-use Rattle.lat_core.specs.declared.requests.Request.TheVariants.{Embed}
-use Rattle.lat_core.specs.declared.replies.Reply.TheVariants.{Embedded}
-use Rattle.lat_core.specs.Step.{IsNamed, Steps}
+use Rattle.lat_core.specs.declared.requests.Request.TheVariants.{Declare, Embed}
+use Rattle.lat_core.specs.declared.replies.Reply.{Reply}
+use Rattle.lat_core.specs.declared.replies.Reply.TheVariants.{Declared, Embedded}
+use Rattle.lat_core.specs.Digits.{AreDigits}
+use Rattle.lat_core.specs.Editions.{edition_of}
+use Rattle.lat_core.specs.Names.{IsDeclaredName}
+use Rattle.lat_core.specs.Step.{IsNamed, IsFreeName, Steps}
 
 -- from L a step that embeds field E into field F, by the image v of the generator, leads to M
 pub record IsInsertion (L : Lattice) (E F : ℕ) (v : List ℕ) (M : Lattice) : Type 0 where
@@ -37,3 +45,46 @@ LinkedMapsAreForced = (L M N : Lattice) (E F : ℕ) (v : List ℕ)
     → IsCompatible N → Grows L N → N.rows ≡ M.rows → Stored N E F (embedding_by L E F v)
     → ((i : ℕ) (m : List (List ℕ)) → length L.rows ≤ i → Stored M i F m → Stored N i F m)
     → Grows M N
+
+-- ---- which fields are declared
+-- a free name, a characteristic of the edition, a monic irreducible polynomial over it of a degree
+-- from 2 to the edition's greatest, and room for one field more
+pub record IsDeclarable (L : Lattice) (name : List ℕ) (p : ℕ) (f : List ℕ) : Type 0 where
+  pub free : IsFreeName L name
+  pub characteristic : Contains L.edition.primes p
+  pub monic : IsMonic (residues p) f
+  pub irreducible : IsIrreducible (residues p) f
+  pub above_one : 2 ≤ degree f
+  pub within_top : degree f ≤ L.edition.top
+  pub room : length L.rows < L.edition.room
+
+-- M has one field more than L: that of p and f, under this name
+pub record IsNewField (L : Lattice) (name : List ℕ) (p : ℕ) (f : List ℕ) (M : Lattice) : Type 0
+  where
+    pub count : length M.rows ≡ length L.rows + 1
+    pub named : IsNamed M (length L.rows) name
+    pub field : field_at M.rows (length L.rows) ≡ record { characteristic = p; polynomial = f }
+
+-- Each such field is declared, under the next number.
+abbrev pub DeclarableIsDeclared : Type 0
+DeclarableIsDeclared = (L : Lattice) (name : List ℕ) (p : ℕ) (f : List ℕ)
+    → IsCompatible L → IsDeclaredName name → IsDeclarable L name p f
+    → (M : Lattice) × Steps L (Declare name p f) (Declared (length L.rows) false) M
+    × IsNewField L name p f M
+
+-- And only such a field: whatever the request is answered, it is this reply exactly for these.
+abbrev pub OnlyDeclarableIsDeclared : Type 0
+OnlyDeclarableIsDeclared = (L : Lattice) (name : List ℕ) (p : ℕ) (f : List ℕ) (reply : Reply)
+    (M : Lattice) → IsCompatible L → IsDeclaredName name → Steps L (Declare name p f) reply M
+    → (reply ≡ Declared (length L.rows) false) ↔ IsDeclarable L name p f
+
+-- Where the field is declared, the lattice afterwards has it under that name and number.
+abbrev pub DeclaredFieldIsNew : Type 0
+DeclaredFieldIsNew = (L : Lattice) (name : List ℕ) (p : ℕ) (f : List ℕ) (n : ℕ) (M : Lattice)
+    → Steps L (Declare name p f) (Declared n false) M
+    → (n ≡ length L.rows) × IsNewField L name p f M
+
+-- In both editions a request can hold the polynomial of each such field.
+abbrev pub DeclarableHasDigits : Type 0
+DeclarableHasDigits = (L : Lattice) (name : List ℕ) (p : ℕ) (f : List ℕ) (e : Edition)
+    → L.edition ≡ edition_of e → IsDeclarable L name p f → AreDigits f

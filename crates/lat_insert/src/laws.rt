@@ -1,9 +1,20 @@
 //! Laws of steps: functions that do nothing, whose clauses are the laws.
 
+ghost use Rattle.lat_insert.specs.Theorems.{DeclarableIsDeclared, OnlyDeclarableIsDeclared};
+ghost use Rattle.lat_insert.specs.Theorems.{DeclaredFieldIsNew, DeclarableHasDigits};
 ghost use Rattle.lat_insert.specs.Theorems.{MadeFieldsAreForced, LinkedMapsAreForced};
 ghost use Rattle.lat_insert.specs.Wording.{FillingIsAsWorded, InsertionIsAsWorded};
 ghost use Rattle.lat_insert.specs.Wording.{LinkedPairsAreStored, StoredMapsAreAsWorded};
 ghost use Rattle.lat_insert.specs.Wording.{AdditionsAreCounted};
+
+/// Each monic irreducible polynomial within the limits is declared under each free name where there
+/// is room, and nothing else is.
+pub fn irreducible_polynomials_are_declared()
+    ensures declared { DeclarableIsDeclared }
+    ensures only { OnlyDeclarableIsDeclared }
+    ensures new_field { DeclaredFieldIsNew }
+    ensures digits { DeclarableHasDigits }
+{}
 
 /// What an insertion adds is forced: no compatible lattice that has grown and stores the new map
 /// does with less.

@@ -8,5 +8,7 @@ mod laws;
 mod room;
 mod steps;
 
-pub use laws::{insertions_are_as_worded, insertions_are_forced};
+pub use laws::{
+    insertions_are_as_worded, insertions_are_forced, irreducible_polynomials_are_declared,
+};
 pub use steps::step;
