@@ -12,4 +12,7 @@ pub mod AppendedTexts
 pub mod PrintedLines
 pub mod PrintedCommands
 pub mod SpelledScripts
+pub mod LedStates
 pub mod PrintedScripts
+pub mod TakenLines
+pub mod TextsOfScripts

@@ -125,7 +125,7 @@ session_kept script name declared new room h =
     }
 
 -- ---- more of a schedule
-place_within : (names : List (List ℕ)) (name : List ℕ) → Contains names name
+pub place_within : (names : List (List ℕ)) (name : List ℕ) → Contains names name
     → place_of names name < length names
 place_within names name there = elim (cases_lt (place_of names name) (length names)) [
   | inl l ↦ l

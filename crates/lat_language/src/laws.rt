@@ -1,6 +1,15 @@
 //! Laws of the script language: functions that do nothing, whose clauses are the laws.
 
-ghost use Rattle.lat_language.specs.Theorems.{OneScript, OneFault, NeverBoth, ScriptOrFault, OneCommand, PrintableLines, CanonicalSpells, Limits, FaultKinds};
+ghost use Rattle.lat_language.specs.Theorems.{SpelledTexts, TakenLines, OneScript, OneFault, NeverBoth, ScriptOrFault, OneCommand, PrintableLines, CanonicalSpells, Limits, FaultKinds};
+
+/// What a text spells, without going line by line: no line is too long; those that aren't passed
+/// over are the header, a line for each command of the prologue, for each session its `session` line
+/// and a line for each of its commands, and the `schedule` lines; and its names and numbers are
+/// within the rules. Each text of which this holds spells the script, and no other text does.
+pub fn spelled_texts()
+    ensures texts { SpelledTexts }
+    ensures taken { TakenLines }
+{}
 
 /// Bytes have one reading: they spell one script, or have one first fault, and never both.
 pub fn one_reading()

@@ -23,7 +23,9 @@ mod verbs;
 
 pub use commands::{Command, Op};
 pub use fixed_lines::{BadLine, bad_line, too_long_line, usage_line};
-pub use laws::{canonical_reading, limits, one_command, one_reading, printable_lines};
+pub use laws::{
+    canonical_reading, limits, one_command, one_reading, printable_lines, spelled_texts,
+};
 pub use parsing::parse;
 pub use printing::print_script;
 pub use script_faults::{
