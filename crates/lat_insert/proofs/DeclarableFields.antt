@@ -1,19 +1,16 @@
 -- Which fields are declared.
-use Rattle.std.proofs.Common.{◌≡◌, ℕ, ◌+◌, ◌-◌, ◌<◌, ◌≤◌, List, [], ◌∷◌, ◌++◌, length, get_or, slice_index_or, true, false, refl, sym, ap, ◌∙◌, subst, arith, rules}
-use Rattle.std.specs.Prelude.{◌↔◌, All, Contains}
+use Rattle.std.proofs.Common.{◌≡◌, ℕ, ◌+◌, ◌-◌, ◌<◌, List, [], length, get_or, slice_index_or, false, refl, sym, ap, ◌∙◌, subst, arith, rules}
+use Rattle.std.specs.Prelude.{All}
 use Rattle.std.proofs.lemmas.List.{length_push, get_or_default}
-use Rattle.std.proofs.lemmas.List.Elements.{All-cons, All-nil, All-contains, All-take, All-weaker}
+use Rattle.std.proofs.lemmas.List.Elements.{All-contains, All-take, All-weaker}
 use Rattle.std.proofs.Math.Seq.{get_or-append_seam}
-use Rattle.alg_model.specs.Coefficients.{primes, residues}
-use Rattle.alg_model.specs.Values.{degree}
+use Rattle.alg_model.specs.Coefficients.{primes}
 use Rattle.alg_model.specs.Lattices as lattices
-use Rattle.alg_model.specs.Lattices.{Lattice, Row, no_row, field_at, IsCompatible}
+use Rattle.alg_model.specs.Lattices.{Lattice, Row, no_row}
 use Rattle.alg_model.specs.Declaring.{IsDeclared}
 use Rattle.alg_rings.proofs.Primes.{each_characteristic}
 use Rattle.alg_compatible.proofs.Laws.{declaring_exists_law}
-use Rattle.lat_core.specs.Digits.{AreDigits}
 use Rattle.lat_core.specs.Editions.{edition_of}
-use Rattle.lat_core.specs.Names.{IsDeclaredName}
 use Rattle.lat_core.specs.Step.{IsWellFormed, declared_row, Declares}
 use Rattle.lat_core.specs.Step.Declares.{malformed, already, taken, reducible, full, declared}
 use Rattle.lat_core.specs.declared.digits.TheConstants.{MAX_DIGITS}

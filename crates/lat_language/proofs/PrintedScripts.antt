@@ -1,29 +1,29 @@
 -- The canonical text of a script that can be printed spells it; each script that bytes spell can.
-use Rattle.std.proofs.Common.{◌≡◌, ℕ, zero, suc, ◌+◌, ◌-◌, ◌*◌, ◌<◌, ◌≤◌, min, true, false, cond, eqb, Result, Ok, Err, List, [], ◌∷◌, ◌++◌, length, get_or, take, drop, map, sym, refl, ap, ap₂, ◌∙◌, subst, inl, inr, arith, append_assoc, length-append, length-drop}
-use Rattle.std.specs.Prelude.{◌⊎◌, All, Contains, codes, flat_map}
+use Rattle.std.proofs.Common.{◌≡◌, ℕ, zero, suc, ◌+◌, ◌-◌, ◌*◌, ◌<◌, ◌≤◌, min, true, false, eqb, Ok, List, [], ◌∷◌, ◌++◌, length, get_or, take, drop, map, sym, refl, ap, ap₂, ◌∙◌, subst, inl, inr, arith, length-drop}
+use Rattle.std.specs.Prelude.{All, Contains, codes, flat_map}
 use Rattle.std.specs.Fork.{slice_chunk}
 use Rattle.std.specs.Int.{div_ceil}
 use Rattle.std.specs.List.{join_with_byte, range_with_len}
 use Rattle.std.specs.Str.{bytes_eq}
 use Rattle.std.proofs.lemmas.Bool.{cases_Bool}
 use Rattle.std.proofs.lemmas.Slice.Eq.{bytes_eq-Decides}
-use Rattle.std.proofs.lemmas.List.{append-nil, length-map, length-take, map-append, take-map, drop-map, take_all, get_or_append_left, get_or_default}
+use Rattle.std.proofs.lemmas.List.{length-map, length-take, take-map, drop-map, take_all}
 use Rattle.std.proofs.lemmas.List.FromFn.{map-range_with_len_more}
 use Rattle.std.proofs.lemmas.List.Elements.{All-nil, All-cons, All-head, All-tail, All-append, All-weaker, All-map, All-take, All-drop, All-get_or, All-from_get_or, Contains-get_or}
-use Rattle.std.proofs.lemmas.List.Sums.{sum_by-append, sum_by-cons, position_or_len_is}
-use Rattle.std.proofs.Math.Seq.{get_or-append_seam, take-add}
+use Rattle.std.proofs.lemmas.List.Sums.{position_or_len_is}
+use Rattle.std.proofs.Math.Seq.{take-add}
 use Rattle.lat_core.specs.Names.{IsDeclaredName}
 use Rattle.lat_language.specs.declared.commands.Command.{Command}
 use Rattle.lat_language.specs.declared.scripts.TheConstants.{MAX_LINE, SCHEDULE_NAMES}
 use Rattle.lat_language.specs.declared.scripts.Script.{Script}
 use Rattle.lat_language.specs.declared.scripts.SessionScript.{SessionScript}
 use Rattle.lat_language.specs.Commands.{word_text, form_of, command_words}
-use Rattle.lat_language.specs.Grammar.{lines_of, words_of, header_words, State, at_start, script_of, session_names, session_commands, command_count, place_of, Form, Header, OfCommand, OfSession, OfSchedule, new_session, after, Says, Means, Spells}
+use Rattle.lat_language.specs.Grammar.{words_of, header_words, State, at_start, script_of, session_names, place_of, OfSchedule, after, Means, Spells}
 use Rattle.lat_language.specs.CanonicalText.{name_at, scheduled_names, schedule_lines, session_lines, canonical_lines, canonical_text}
 use Rattle.lat_language.proofs.LedStates.{Leads, leads_append, led_ends, begun_with, schedule_said, whole_lead}
 use Rattle.lat_language.proofs.PrintedLines.{IsPrintedWord, printed_words, printed_length, printed_line, printed_lines}
 use Rattle.lat_language.proofs.PrintedCommands.{form_some, form_short, command_printed, header_printed, session_printed, schedule_printed}
-use Rattle.lat_language.proofs.SpelledScripts.{IsGrammatical, IsGrammaticalSession, AreDistinct, IsPrintable, Read, by_begun, size_of, prologue_same, count_more, spelled_printable}
+use Rattle.lat_language.proofs.SpelledScripts.{IsGrammatical, IsGrammaticalSession, AreDistinct, IsPrintable, spelled_printable}
 
 -- the bytes of a line of these words, without its line feed
 abbrev printed : List (List ℕ) → List ℕ

@@ -1,7 +1,7 @@
 -- A text spells a script exactly where its lines are the script's.
-use Rattle.std.proofs.Common.{◌≡◌, ◌≢◌, ℕ, ◌+◌, ◌<◌, ◌≤◌, true, false, cond, Result, Ok, Err, List, [], ◌∷◌, ◌++◌, length, get_or, map, sym, refl, ap, ap₂, ◌∙◌, subst, inl, inr, arith, append_assoc, length-append}
-use Rattle.std.specs.Prelude.{◌⊎◌, All, AllPairs, Contains, MatchResult, codes, flat_map}
-use Rattle.std.proofs.lemmas.Bool.{cases_Bool, cases_lt, true≢false}
+use Rattle.std.proofs.Common.{◌≡◌, ◌≢◌, ℕ, ◌+◌, ◌<◌, ◌≤◌, true, false, cond, Ok, Err, List, [], ◌∷◌, ◌++◌, length, map, sym, refl, ap, ap₂, ◌∙◌, subst, inl, inr, arith, append_assoc, length-append}
+use Rattle.std.specs.Prelude.{◌⊎◌, All, Contains, codes, flat_map}
+use Rattle.std.proofs.lemmas.Bool.{cases_lt, true≢false}
 use Rattle.std.proofs.lemmas.Grind.{flat_map-append}
 use Rattle.std.proofs.lemmas.List.{append-nil, length-map, map-append, get_or_default}
 use Rattle.std.proofs.lemmas.List.Concat.{length-flat_map}
@@ -18,8 +18,8 @@ use Rattle.lat_language.specs.CanonicalText.{session_lines}
 use Rattle.lat_language.specs.PrivateDecisions.{Decided, decide_passed_by}
 use Rattle.lat_language.specs.Theorems.{text_lines, commands_of, IsTextOf}
 use Rattle.lat_language.proofs.LineMeanings.{passed_no_header, passed_no_command, passed_no_session, passed_no_schedule, header_no_command, header_no_session, header_no_schedule, says_passed}
-use Rattle.lat_language.proofs.SessionPlaces.{last_names, decide_all_there}
-use Rattle.lat_language.proofs.SpelledScripts.{IsGrammatical, IsGrammaticalSession, AreDistinct, IsPrintable, Read, by_begun, size_of, prologue_same, place_within, spelled_printable}
+use Rattle.lat_language.proofs.SessionPlaces.{decide_all_there}
+use Rattle.lat_language.proofs.SpelledScripts.{IsGrammatical, IsGrammaticalSession, IsPrintable, Read, by_begun, prologue_same, place_within, spelled_printable}
 use Rattle.lat_language.proofs.TakenLines.{taken_words, words_passed, words_taken, words_append}
 use Rattle.lat_language.proofs.LedStates.{Leads, led_ends, begun_with, schedule_said, whole_lead}
 
