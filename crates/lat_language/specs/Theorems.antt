@@ -37,7 +37,8 @@ is_taken line = begins_a_form (first_byte line)
 -- line for each of the lists of names
 abbrev pub text_lines : Script → List (List (List ℕ)) → List (List (List ℕ))
 text_lines script scheduled = header_words ∷ (map command_words script.prologue
-    ++ (flat_map session_lines script.sessions ++ map (λ names. codes "schedule" ∷ names) scheduled))
+    ++ (flat_map session_lines script.sessions
+    ++ map (λ names. codes "schedule" ∷ names) scheduled))
 
 -- those of the prologue, and of each session
 abbrev pub commands_of : Script → List Command
