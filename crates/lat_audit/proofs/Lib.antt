@@ -1,0 +1,3 @@
+pub mod SortedEntries
+pub mod StoredMaps
+pub mod DumpedLines
