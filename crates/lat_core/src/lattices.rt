@@ -28,7 +28,7 @@ use std::sync::Arc;
 #[derive(Drop)]
 pub struct Lattice {
     edition: Edition,
-    rows: Vec<Arc<SharedRow>>,
+    rows: Arc<Vec<Arc<SharedRow>>>,
 }
 
 impl Model for Lattice {
@@ -41,9 +41,9 @@ impl Model for Lattice {
 
     ghost coded = { lattice_code };
 
-    ghost view = { λ a. lattice_of (edition_of a.edition) (map (λ r. r.value) a.rows.items) };
+    ghost view = { λ a. lattice_of (edition_of a.edition) (map (λ r. r.value) a.rows.value.items) };
 
-    ghost invariant = { λ a. AreKept (edition_of a.edition) (map (λ r. r.value) a.rows.items) };
+    ghost invariant = { λ a. AreKept (edition_of a.edition) (map (λ r. r.value) a.rows.value.items) };
 }
 
 impl Lattice {
@@ -70,7 +70,8 @@ impl Lattice {
         ensures { IsCompatible self.now }
     {
         let _edition = self.edition();
-        *self.rows.allocator()
+        let rows: &Vec<Arc<SharedRow>> = &self.rows;
+        *rows.allocator()
     }
 
     /// How many fields there are.
@@ -78,7 +79,8 @@ impl Lattice {
         ensures value { result ≡ length self.now.rows }
         ensures whole { IsCompatible self.now }
     {
-        self.rows.len() as u32
+        let rows: &Vec<Arc<SharedRow>> = &self.rows;
+        rows.len() as u32
     }
 
     /// The row of a field, whose number is below the count.
@@ -86,7 +88,8 @@ impl Lattice {
         requires { number < length self.now.rows }
         ensures { IsRowOf self.now number result.now.value }
     {
-        &self.rows[number as usize]
+        let rows: &Vec<Arc<SharedRow>> = &self.rows;
+        &rows[number as usize]
     }
 
     /// A field and its name; the number is below the count.
@@ -133,7 +136,8 @@ impl Lattice {
     pub fn maps(&self) -> u32
         ensures { result ≡ map_count self.now }
     {
-        count_maps(self.rows.as_slice())
+        let rows: &Vec<Arc<SharedRow>> = &self.rows;
+        count_maps(rows.as_slice())
     }
 
     /// The lattice of the edition with these fields and maps. They are compatible, and each map
@@ -152,7 +156,10 @@ impl Lattice {
     {
         let none = Vec::new(alloc);
         let rows = grown_rows(alloc, none.as_slice(), fields.as_slice(), maps.as_slice())?;
-        Ok(Lattice { edition, rows })
+        Ok(Lattice {
+            edition,
+            rows: Arc::new(alloc, rows)?,
+        })
     }
 
     /// This lattice with these fields after its own, and these maps put in. They are compatible,
@@ -163,20 +170,21 @@ impl Lattice {
         ensures { IfOk result (λ lattice. lattice ≡ with_rows self.now fields.now maps.now) }
     {
         let alloc = self.allocator();
-        let rows = grown_rows(alloc, self.rows.as_slice(), fields, maps)?;
+        let shared: &Vec<Arc<SharedRow>> = &self.rows;
+        let rows = grown_rows(alloc, shared.as_slice(), fields, maps)?;
         Ok(Lattice {
             edition: self.edition,
-            rows,
+            rows: Arc::new(alloc, rows)?,
         })
     }
 
-    /// An equal lattice, which shares the rows of this one.
+    /// An equal lattice, which shares the list of the rows of this one.
     pub fn copy(&self) -> Result<Lattice, NoMemory>
         ensures { IfOk result (λ lattice. lattice ≡ self.now) }
     {
         Ok(Lattice {
             edition: self.edition,
-            rows: self.rows.clone()?,
+            rows: Arc::try_clone(&self.rows)?,
         })
     }
 }
