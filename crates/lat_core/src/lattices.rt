@@ -17,6 +17,7 @@ use crate::memory::NoMemory;
 use crate::names::FieldName;
 use crate::opening::{identities, prime_fields};
 use crate::rows::{FieldRow, MapRow};
+use crate::shared_maps::{SharedMap, shared};
 use crate::shared_rows::SharedRow;
 use ff_embed::Embedding;
 use std::alloc::Global;
@@ -155,6 +156,7 @@ impl Lattice {
             ≡ with_rows (no_rows (edition_of edition)) fields.items maps.items) }
     {
         let none = Vec::new(alloc);
+        let maps = shared(alloc, maps.as_slice())?;
         let rows = grown_rows(alloc, none.as_slice(), fields.as_slice(), maps.as_slice())?;
         Ok(Lattice {
             edition,
@@ -169,9 +171,23 @@ impl Lattice {
         requires between { AreBetween (self.now.rows ++ fields.now) maps.now }
         ensures { IfOk result (λ lattice. lattice ≡ with_rows self.now fields.now maps.now) }
     {
+        let maps = shared(self.allocator(), maps)?;
+        self.grown_sharing(fields, maps.as_slice())
+    }
+
+    /// The same with maps that are shared, and not copied.
+    pub fn grown_sharing(
+        &self,
+        fields: &[FieldRow],
+        maps: &[SharedMap],
+    ) -> Result<Lattice, NoMemory>
+        requires compatible { IsCompatible (with_rows self.now fields.now maps.now) }
+        requires between { AreBetween (self.now.rows ++ fields.now) maps.now }
+        ensures { IfOk result (λ lattice. lattice ≡ with_rows self.now fields.now maps.now) }
+    {
         let alloc = self.allocator();
-        let shared: &Vec<Arc<SharedRow>> = &self.rows;
-        let rows = grown_rows(alloc, shared.as_slice(), fields, maps)?;
+        let old: &Vec<Arc<SharedRow>> = &self.rows;
+        let rows = grown_rows(alloc, old.as_slice(), fields, maps)?;
         Ok(Lattice {
             edition: self.edition,
             rows: Arc::new(alloc, rows)?,
@@ -204,7 +220,7 @@ fn count_maps(rows: &[Arc<SharedRow>]) -> u32
 }
 
 // Whether one of the maps begins at the field of this number.
-fn begins(number: u32, maps: &[MapRow]) -> bool
+fn begins(number: u32, maps: &[SharedMap]) -> bool
     ensures { OnFalse result ((r : RowMaps) → row_with number r maps.now ≡ r) }
 {
     for map in maps {
@@ -221,12 +237,12 @@ fn row_copied(
     alloc: Global,
     number: u32,
     row: &SharedRow,
-    maps: &[MapRow],
+    maps: &[SharedMap],
 ) -> Result<Arc<SharedRow>, NoMemory>
     ensures { IfOk result (λ r. r.value ≡ row_with number row.now maps.now) }
 {
     let mut grown = row.copy()?;
-    grown.put_in(alloc, number, maps)?;
+    grown.put_in(number, maps)?;
     Ok(Arc::new(alloc, grown)?)
 }
 
@@ -235,7 +251,7 @@ fn row_grown(
     alloc: Global,
     number: u32,
     row: &Arc<SharedRow>,
-    maps: &[MapRow],
+    maps: &[SharedMap],
 ) -> Result<Arc<SharedRow>, NoMemory>
     ensures { IfOk result (λ r. r.value ≡ row_with number row.now.value maps.now) }
 {
@@ -251,12 +267,12 @@ fn row_made(
     alloc: Global,
     number: u32,
     field: &FieldRow,
-    maps: &[MapRow],
+    maps: &[SharedMap],
 ) -> Result<Arc<SharedRow>, NoMemory>
     ensures { IfOk result (λ r. r.value ≡ row_with number (new_row field.now) maps.now) }
 {
     let mut row = SharedRow::new(alloc, field.copy());
-    row.put_in(alloc, number, maps)?;
+    row.put_in(number, maps)?;
     Ok(Arc::new(alloc, row)?)
 }
 
@@ -264,7 +280,7 @@ fn row_made(
 fn old_rows(
     alloc: Global,
     rows: &[Arc<SharedRow>],
-    maps: &[MapRow],
+    maps: &[SharedMap],
 ) -> Result<Vec<Arc<SharedRow>>, NoMemory>
     requires { length rows.now ≤ MAX_FIELDS }
     ensures { IfOk result (λ grown. map (λ r. r.value) grown.items
@@ -282,7 +298,7 @@ fn add_rows(
     alloc: Global,
     grown: &mut Vec<Arc<SharedRow>>,
     fields: &[FieldRow],
-    maps: &[MapRow],
+    maps: &[SharedMap],
 ) -> Result<(), NoMemory>
     requires { length grown.old.items + length fields.now ≤ MAX_FIELDS }
     ensures { OnOk result (map (λ r. r.value) grown.new.items ≡ map (λ r. r.value) grown.old.items
@@ -300,7 +316,7 @@ fn grown_rows(
     alloc: Global,
     rows: &[Arc<SharedRow>],
     fields: &[FieldRow],
-    maps: &[MapRow],
+    maps: &[SharedMap],
 ) -> Result<Vec<Arc<SharedRow>>, NoMemory>
     requires { length rows.now + length fields.now ≤ MAX_FIELDS }
     ensures { IfOk result (λ grown. map (λ r. r.value) grown.items

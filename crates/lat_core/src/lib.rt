@@ -16,6 +16,7 @@ mod questions;
 mod replies;
 mod requests;
 mod rows;
+mod shared_maps;
 mod shared_rows;
 mod tagged;
 
@@ -35,6 +36,7 @@ pub use questions::{Answer, CoerceFault, Question};
 pub use replies::{ChangeFault, Entry, Placed, Reply, StepRefusal};
 pub use requests::Request;
 pub use rows::{FieldRow, MapRow};
+pub use shared_maps::SharedMap;
 pub use shared_rows::SharedRow;
 pub use tagged::{Sending, Tagged};
 

@@ -5,7 +5,8 @@ ghost use Rattle.std.specs.FinMap.{get, empty, insert, len};
 ghost use Rattle.lat_core.specs.PrivateLattices.{row_with};
 
 use crate::memory::NoMemory;
-use crate::rows::{FieldRow, MapRow};
+use crate::rows::FieldRow;
+use crate::shared_maps::SharedMap;
 use ff_embed::Embedding;
 use indexmap::IndexMap;
 use std::alloc::Global;
@@ -79,29 +80,24 @@ impl SharedRow {
     }
 
     // Stores a map into the field of this number.
-    fn store(&mut self, alloc: Global, target: u32, map: &Embedding) -> Result<(), NoMemory>
+    fn store(&mut self, target: u32, map: &Arc<Embedding>) -> Result<(), NoMemory>
         ensures { OnOk result (self.new ≡ record {
           row = self.old.row;
-          maps = insert self.old.maps target map.now;
+          maps = insert self.old.maps target map.now.value;
         }) }
     {
-        let map = Arc::new(alloc, map.copy())?;
+        let map = Arc::try_clone(map)?;
         self.maps.insert(target, map)?;
         Ok(())
     }
 
     // Stores those of the maps that begin at the field of this number.
-    pub(crate) fn put_in(
-        &mut self,
-        alloc: Global,
-        number: u32,
-        maps: &[MapRow],
-    ) -> Result<(), NoMemory>
+    pub(crate) fn put_in(&mut self, number: u32, maps: &[SharedMap]) -> Result<(), NoMemory>
         ensures { OnOk result (self.new ≡ row_with number self.old maps.now) }
     {
         for row in maps {
             if row.from == number {
-                self.store(alloc, row.into, &row.map)?;
+                self.store(row.into, &row.map)?;
             }
         }
         Ok(())

@@ -14,7 +14,7 @@ use crate::made::{list_made, made_fields};
 use crate::members::members;
 use crate::outlets::add_outlets;
 use ff_embed::Embedding;
-use lat_core::{Lattice, MapRow, NoMemory};
+use lat_core::{Lattice, NoMemory, SharedMap};
 use lat_world::Member;
 
 /// A filled lattice, and what was added.
@@ -29,7 +29,7 @@ pub struct Filled {
 }
 
 // All maps that are added: those between members, and those out of them.
-fn ways(lattice: &Lattice, members: &[Member]) -> Result<Vec<MapRow>, NoMemory>
+fn ways(lattice: &Lattice, members: &[Member]) -> Result<Vec<SharedMap>, NoMemory>
     requires members { AreMembers members.now }
     requires home { AreAtHome lattice.now members.now }
     ensures { IfOk result (λ maps. AreAllWays lattice.now members.now maps.items) }
@@ -67,7 +67,7 @@ pub fn fill(lattice: &Lattice, from: u32, into: u32, phi: &Embedding) -> Result<
     let mut members = members(lattice, from, into, phi)?;
     list_made(lattice, into, fields.as_slice(), &mut members)?;
     let maps = ways(lattice, members.as_slice())?;
-    let grown = lattice.grown(fields.as_slice(), maps.as_slice())?;
+    let grown = lattice.grown_sharing(fields.as_slice(), maps.as_slice())?;
     let linked = grown.maps() - lattice.maps();
     Ok(Filled {
         lattice: grown,

@@ -5,12 +5,12 @@ ghost use Rattle.lat_world.specs.Worlds.{AreMembers};
 ghost use Rattle.lat_fill.specs.PrivateListing.{number_at};
 ghost use Rattle.lat_fill.specs.PrivateWays.{AreWays, IsHad, Keeps, Provides, Goes};
 
-use lat_core::{Lattice, MapRow, NoMemory};
+use lat_core::{Lattice, NoMemory, SharedMap};
 use lat_world::{Member, World};
 
 // Appends a map.
 #[inline(always)]
-pub(crate) fn add(maps: &mut Vec<MapRow>, map: MapRow) -> Result<(), NoMemory>
+pub(crate) fn add(maps: &mut Vec<SharedMap>, map: SharedMap) -> Result<(), NoMemory>
     ensures { OnOk result (maps.new.items ≡ maps.old.items ++ map ∷ []) }
 {
     maps.push(map)?;
@@ -40,7 +40,7 @@ fn push_link(
     members: &[Member],
     a: usize,
     b: usize,
-    maps: &mut Vec<MapRow>,
+    maps: &mut Vec<SharedMap>,
 ) -> Result<(), NoMemory>
     requires members { AreMembers members.now }
     requires first { a < length members.now }
@@ -52,7 +52,7 @@ fn push_link(
 {
     let (from, into) = (members[a].number, members[b].number);
     let map = World::of(members).link(a, b);
-    add(maps, MapRow { from, into, map })
+    add(maps, SharedMap::new(lattice.allocator(), from, into, map)?)
 }
 
 // Appends the map from the `a`-th to the `b`-th member, if there is one and the lattice has none
@@ -62,7 +62,7 @@ fn add_link(
     members: &[Member],
     a: usize,
     b: usize,
-    maps: &mut Vec<MapRow>,
+    maps: &mut Vec<SharedMap>,
 ) -> Result<(), NoMemory>
     requires members { AreMembers members.now }
     requires first { a < length members.now }
@@ -82,7 +82,7 @@ fn add_links_to(
     lattice: &Lattice,
     members: &[Member],
     b: usize,
-    maps: &mut Vec<MapRow>,
+    maps: &mut Vec<SharedMap>,
 ) -> Result<(), NoMemory>
     requires members { AreMembers members.now }
     requires place { b < length members.now }
@@ -99,7 +99,7 @@ fn add_links_to(
 }
 
 // The maps between members that the lattice lacks: one for each two whose degrees divide.
-pub(crate) fn links(lattice: &Lattice, members: &[Member]) -> Result<Vec<MapRow>, NoMemory>
+pub(crate) fn links(lattice: &Lattice, members: &[Member]) -> Result<Vec<SharedMap>, NoMemory>
     requires { AreMembers members.now }
     ensures ways { IfOk result (λ maps. AreWays lattice.now members.now maps.items) }
     ensures linked { IfOk result (λ maps. (a b : ℕ) → a < length members.now

@@ -7,7 +7,7 @@ ghost use Rattle.lat_fill.specs.PrivateWays.{AreAtHome, AreExits, HasPlace};
 
 use crate::exits::exits_to;
 use crate::links::{add, is_stored};
-use lat_core::{Lattice, MapRow, NoMemory};
+use lat_core::{Lattice, NoMemory, SharedMap};
 use lat_world::{Member, World};
 
 // Appends the map from the `a`-th member to the `b`-th, and then the stored one to field `k`.
@@ -18,7 +18,7 @@ fn push_outlet(
     a: usize,
     b: usize,
     k: u32,
-    maps: &mut Vec<MapRow>,
+    maps: &mut Vec<SharedMap>,
 ) -> Result<(), NoMemory>
     requires members { AreMembers members.now }
     requires home { AreAtHome lattice.now members.now }
@@ -35,7 +35,7 @@ fn push_outlet(
         None => unreachable!(),
         Some(stored) => {
             let map = link.compose(stored);
-            add(maps, MapRow { from, into: k, map })
+            add(maps, SharedMap::new(lattice.allocator(), from, k, map)?)
         }
     }
 }
@@ -47,7 +47,7 @@ fn add_outlet_through(
     a: usize,
     b: usize,
     k: u32,
-    maps: &mut Vec<MapRow>,
+    maps: &mut Vec<SharedMap>,
 ) -> Result<(), NoMemory>
     requires members { AreMembers members.now }
     requires home { AreAtHome lattice.now members.now }
@@ -72,7 +72,7 @@ fn add_outlet(
     exits: &[Option<u8>],
     a: usize,
     k: u32,
-    maps: &mut Vec<MapRow>,
+    maps: &mut Vec<SharedMap>,
 ) -> Result<(), NoMemory>
     requires members { AreMembers members.now }
     requires home { AreAtHome lattice.now members.now }
@@ -94,7 +94,7 @@ fn add_outlets_to(
     lattice: &Lattice,
     members: &[Member],
     k: u32,
-    maps: &mut Vec<MapRow>,
+    maps: &mut Vec<SharedMap>,
 ) -> Result<(), NoMemory>
     requires members { AreMembers members.now }
     requires home { AreAtHome lattice.now members.now }
@@ -129,7 +129,7 @@ fn has_place(members: &[Member], k: u32) -> bool
 pub(crate) fn add_outlets(
     lattice: &Lattice,
     members: &[Member],
-    maps: &mut Vec<MapRow>,
+    maps: &mut Vec<SharedMap>,
 ) -> Result<(), NoMemory>
     requires members { AreMembers members.now }
     requires home { AreAtHome lattice.now members.now }

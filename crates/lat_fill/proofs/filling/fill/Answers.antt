@@ -26,8 +26,8 @@ ways-requires-clause-home c = world_home
     c.as_slice-2.ensures.value c.in_ok-members.ensures c.in_ok-list_made.ensures)
     c.as_slice-3.result.now c.as_slice-3.ensures.value
 
-pub grown-requires-clause-compatible : goal.grown-requires-clause-compatible
-grown-requires-clause-compatible c = (conclude
+pub grown_sharing-requires-clause-compatible : goal.grown_sharing-requires-clause-compatible
+grown_sharing-requires-clause-compatible c = (conclude
     (fillable c.edition-edition.result c.args.phi.now.images c.missing-degrees.result.items c.as_slice.result.now c.in_ok-fields.fields.items
     c.as_slice-2.result.now c.in_ok-members.members.items c.list_made.new.members.items c.edition-edition.ensures.value c.edition-edition.ensures.whole
     c.requires.fields c.requires.candidate c.requires.room c.missing-degrees.ensures.missing c.as_slice.ensures.value c.in_ok-fields.ensures
@@ -35,8 +35,8 @@ grown-requires-clause-compatible c = (conclude
     c.as_slice-3.result.now c.in_ok-maps.maps.items c.as_slice-5.result.now c.as_slice-4.result.now c.as_slice-3.ensures.value c.in_ok-maps.ensures
     c.as_slice-4.ensures.value c.as_slice-5.ensures.value).compatible
 
-pub grown-requires-clause-between : goal.grown-requires-clause-between
-grown-requires-clause-between c = (conclude
+pub grown_sharing-requires-clause-between : goal.grown_sharing-requires-clause-between
+grown_sharing-requires-clause-between c = (conclude
     (fillable c.edition-edition.result c.args.phi.now.images c.missing-degrees.result.items c.as_slice.result.now c.in_ok-fields.fields.items
     c.as_slice-2.result.now c.in_ok-members.members.items c.list_made.new.members.items c.edition-edition.ensures.value c.edition-edition.ensures.whole
     c.requires.fields c.requires.candidate c.requires.room c.missing-degrees.ensures.missing c.as_slice.ensures.value c.in_ok-fields.ensures

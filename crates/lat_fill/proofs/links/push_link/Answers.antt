@@ -1,4 +1,4 @@
-use Rattle.std.proofs.Common.{subst, sym}
+use Rattle.std.proofs.Common.{◌∙◌, ◌++◌, ◌∷◌, [], ap, subst, sym}
 use Prim.Native.Nat.{◌∣◌}
 use Rattle.std.proofs.lemmas.Result.{on_ok_weaker}
 use Rattle.alg_model.specs.Maps.{degree_of}
@@ -13,4 +13,5 @@ link-map-requires-clause-divides c = subst (λ ms. degree_of (map_at ms c.args.a
 pub returns : goal.returns
 returns c = on_ok_weaker c.add.result (λ e. provides _ c.requires.ways
     (link_way c.args.a c.args.b c.index-members-a.result c.index-members-b.result c.link-map.result c.requires.first c.requires.second
-    (subst (λ ms. IsForcedBetween ms c.args.a c.args.b c.link-map.result) c.of.ensures c.link-map.ensures.forced)) e) c.add.ensures
+    (subst (λ ms. IsForcedBetween ms c.args.a c.args.b c.link-map.result) c.of.ensures c.link-map.ensures.forced))
+    (e ∙ ap (λ m. c.args.maps.now.items ++ m ∷ []) c.in_ok-new.ensures)) c.add.ensures

@@ -1,4 +1,4 @@
-use Rattle.std.proofs.Common.{subst, sym}
+use Rattle.std.proofs.Common.{◌∙◌, ◌++◌, ◌∷◌, [], ap, subst, sym}
 use Prim.Native.Nat.{◌∣◌}
 use Rattle.std.proofs.lemmas.Result.{on_ok_weaker}
 use Rattle.alg_model.specs.Maps.{degree_of}
@@ -27,4 +27,5 @@ returns c = on_ok_weaker c.add.result (λ e. provides _ c.requires.ways
     (exit_way c.args.a c.args.b c.args.k _ c.index-members-a.result c.link-link.result c.in-Some.stored.now c.compose-map.result
     c.requires.first c.requires.second (number_is c.args.members.now c.args.b c.index-members-b.result c.requires.second)
     (subst (λ ms. IsForcedBetween ms c.args.a c.args.b c.link-link.result) c.of.ensures c.link-link.ensures.forced)
-    c.in-Some.ensures c.compose-map.ensures.source c.compose-map.ensures.target c.compose-map.ensures.images) e) c.add.ensures
+    c.in-Some.ensures c.compose-map.ensures.source c.compose-map.ensures.target c.compose-map.ensures.images)
+    (e ∙ ap (λ m. c.args.maps.now.items ++ m ∷ []) c.in_ok-new-in-Some.ensures)) c.add.ensures

@@ -7,7 +7,7 @@ pub returns : goal.returns
 returns c =
     (λ i. record {
       row = c.self.inside.row;
-      maps = stored_maps (λ a. a.value) c.self.inside.maps.entries c.insert.new.self.entries c.args.target c.in_ok-map.map c.args.map.now
-          (c.in_ok-map.ensures.ok ∙ c.copy.ensures.same) c.in_ok-insert.ensures.updates.0 i;
+      maps = stored_maps (λ a. a.value) c.self.inside.maps.entries c.insert.new.self.entries c.args.target c.in_ok-map.map c.args.map.now.value
+          c.in_ok-map.ensures c.in_ok-insert.ensures.updates.0 i;
     })
-    ∙ ap (λ r. record { row = r.row; maps = insert r.maps c.args.target c.args.map.now }) c.self.view_is
+    ∙ ap (λ r. record { row = r.row; maps = insert r.maps c.args.target c.args.map.now.value }) c.self.view_is
