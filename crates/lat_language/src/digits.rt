@@ -25,8 +25,8 @@ fn push_number(numbers: &mut ArrayVec<u8, MAX_DIGITS>, part: &[u8]) -> Option<()
     }
 }
 
-// The coefficient list that the word is; None exactly where it is none.
-pub(crate) fn read_digits(word: &[u8]) -> Option<Digits>
+/// The coefficient list that the word is; None exactly where it is none.
+pub fn read_digits(word: &[u8]) -> Option<Digits>
     ensures { MatchOption result ((c : List ℕ) → AreDigits c → word.now ≢ digits_text c)
         (λ c. AreDigits c × (word.now ≡ digits_text c)) }
 {

@@ -22,10 +22,12 @@ mod texts;
 mod verbs;
 
 pub use commands::{Command, Op};
+pub use digits::read_digits;
 pub use fixed_lines::{BadLine, bad_line, too_long_line, usage_line};
 pub use laws::{
     canonical_reading, limits, one_command, one_reading, printable_lines, spelled_texts,
 };
+pub use numbers::read_number;
 pub use parsing::parse;
 pub use printing::print_script;
 pub use script_faults::{

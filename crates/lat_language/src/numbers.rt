@@ -9,8 +9,8 @@ fn has_leading_zero(word: &[u8]) -> bool
     word.len() > 1 && word[0] == b'0'
 }
 
-// The number that the word is in decimal; None exactly where it is none up to the bound.
-pub(crate) fn read_number(word: &[u8], bound: u64) -> Option<u64>
+/// The number that the word is in decimal; None exactly where it is none up to the bound.
+pub fn read_number(word: &[u8], bound: u64) -> Option<u64>
     ensures { MatchOption result ((n : ℕ) → n ≤ bound → word.now ≢ decimal n)
         (λ n. (n ≤ bound) × (word.now ≡ decimal n)) }
 {
