@@ -1,30 +1,31 @@
--- Words and an input have an answer, and only one.
-use Rattle.std.proofs.Common.{◌≡◌, ℕ, ◌<◌, ◌≤◌, List, [], ◌∷◌, length, refl, sym, ap, ap₂, ◌∙◌, subst, arith, inl, inr}
-use Rattle.std.specs.Prelude.{◌⊎◌, codes, bytes_eq, IsTrue}
-use Rattle.std.proofs.lemmas.Bool.{cases_lt, cases_Bool, true≢false}
-use Rattle.std.proofs.lemmas.Slice.Eq.{bytes_eq-Decides}
-use Rattle.alg_model.specs.Maps.{Field}
+-- What words ask for and an input have an answer, and only one.
+use Rattle.std.proofs.Common.{◌≡◌, ℕ, ◌<◌, ◌≤◌, List, length, refl, sym, ap, ap₂, ◌∙◌, subst, arith, inl, inr, Option, Some, None}
+use Rattle.std.proofs.lemmas.Bool.{cases_lt}
 use Rattle.alg_model.specs.Lattices.{first_edition}
 use Rattle.alg_compatible.proofs.Editions.{first_is_edition}
 use Rattle.ff_poly.specs.Polynomial.{Polynomial}
 use Rattle.natural_ops.specs.Operations.{IsOpTable}
 use Rattle.natural_ops.proofs.TableValues.{value_at_valid}
+use Rattle.lat_gen.specs.Generated.{generated}
 use Rattle.lat_language.specs.declared.commands.Op.TheVariants.{First, Second, Third}
 use Rattle.lat_language.specs.declared.scripts.Script.{Script}
-use Rattle.lat_language.specs.Grammar.{Spells, FirstBad}
 use Rattle.lat_language.specs.Texts.{usage_text, bad_line_text, too_long_text}
-use Rattle.lat_language.proofs.OneMeaning.{script_unique, fault_unique, never_both}
+use Rattle.lat_language.proofs.OneMeaning.{script_unique, fault_unique}
 use Rattle.lat_language.proofs.SomeMeaning.{reading_exists}
 use Rattle.lat_session.specs.Outcomes.{Operations, operations_of, KeepsValues}
 use Rattle.lat_playing.specs.Transcripts.{IsTranscript}
 use Rattle.lat_playing.proofs.ScriptLaws.{one_transcript, some_transcript}
 use Rattle.lattice_run.specs.declared.run.TheConstants.{MAX_INPUT}
 use Rattle.lattice_run.specs.declared.status.TheConstants.{DONE, NO_COMMAND, BAD_SCRIPT}
-use Rattle.lattice_run.specs.Answers.{IsSolo, Answers}
-use Rattle.lattice_run.specs.Answers.Answers.{usage, too_long, bad_line, played}
+use Rattle.lattice_run.specs.declared.tasks.Task.{Task}
+use Rattle.lattice_run.specs.declared.tasks.Task.TheVariants.{Solo, Gen}
+use Rattle.lattice_run.specs.Tasks.{IsProper, Asks}
+use Rattle.lattice_run.specs.Answers.{IsOutput, Answers}
+use Rattle.lattice_run.specs.Answers.Answers.{usage, too_long, bad_line, output}
 use Rattle.lattice_run.specs.Theorems.{InputHasAnswer, InputHasOneAnswer}
-use Rattle.lattice_run.proofs.PlayableScripts.{spelled_playable}
-use Rattle.lattice_run.proofs.Running.{head_same}
+use Rattle.lattice_run.proofs.PlayableScripts.{spelled_playable, generated_playable}
+use Rattle.lattice_run.proofs.Transcribed.{some_summary, one_summary}
+use Rattle.lattice_run.proofs.Determined.{plays_asked, output_asked, long_output, bad_output}
 
 -- what the operations of tables give are values
 tables_keep : (first second third : List Polynomial) → IsOpTable first → IsOpTable second
@@ -34,79 +35,80 @@ tables_keep first second third f s t Second K a W v = value_at_valid second K a 
 tables_keep first second third f s t Third K a W v = value_at_valid third K a t W v
 
 -- ---- one answer
-module _ {operations : Operations} (keeps : KeepsValues operations) where
-  one : {words : List (List ℕ)} {input : List ℕ} {s t : ℕ} {text other : List ℕ}
-      → Answers operations words input s text → Answers operations words input t other
-      → (s ≡ t) × (text ≡ other)
-  one (usage o) (usage p) = (refl, refl)
-  one (usage o) (too_long solo l) = absurd (o solo)
-  one (usage o) (bad_line solo f line kind b) = absurd (o solo)
-  one (usage o) (played solo f script text s t) = absurd (o solo)
-  one (too_long solo l) (usage o) = absurd (o solo)
-  one (too_long solo l) (too_long solo' l') = (refl, refl)
-  one (too_long solo l) (bad_line solo' f line kind b) = absurd (omega arith)
-  one (too_long solo l) (played solo' f script text s t) = absurd (omega arith)
-  one (bad_line solo f line kind b) (usage o) = absurd (o solo)
-  one (bad_line solo f line kind b) (too_long solo' l) = absurd (omega arith)
-  one {input = input} (bad_line solo f line kind b) (bad_line solo' f' line' kind' b') =
+module _ (operations : Operations) (keeps : KeepsValues operations) where
+  one_output : (task : Task) (input text other : List ℕ) → IsProper task
+      → IsOutput operations task input text → IsOutput operations task input other → text ≡ other
+  one_output Solo input text other proper (script, s, t) (script', s', t') =
+      let same : script' ≡ script = script_unique input script' script s' s in
+      one_transcript first_edition operations script text other first_is_edition keeps (spelled_playable input script s) t
+      (subst (λ (x : Script). IsTranscript first_edition operations x other) same t')
+  one_output (Gen s f m) input text other proper a b =
+      one_summary operations (generated s f m) keeps (generated_playable s f m proper.1) text other a b
+
+  -- the outputs of what is asked for
+  same_output : (words : List (List ℕ)) (asked : Option Task) (task task' : Task)
+      (input text other : List ℕ) → Asks words asked → asked ≡ Some task → asked ≡ Some task'
+      → IsOutput operations task input text → IsOutput operations task' input other → text ≡ other
+  same_output words asked task task' input text other asks is is' o o' =
+      let same : task' ≡ task = cc in
+      let named : Asks words (Some task) = subst (Asks words) is asks in
+      one_output task input text other named.1 o (subst (λ t. IsOutput operations t input other) same o')
+
+  one : (words : List (List ℕ)) (asked : Option Task) {input : List ℕ} {s t : ℕ}
+      {text other : List ℕ} → Asks words asked → Answers operations asked input s text
+      → Answers operations asked input t other → (s ≡ t) × (text ≡ other)
+  one words asked asks (usage e) (usage f) = (refl, refl)
+  one words asked asks (usage e) (too_long p l) = absurd (plays_asked asked p e)
+  one words asked asks (usage e) (bad_line p f line kind b) = absurd (plays_asked asked p e)
+  one words asked asks (usage e) (output task text is f o) = absurd (output_asked asked task is e)
+  one words asked asks (too_long p l) (usage e) = absurd (plays_asked asked p e)
+  one words asked asks (too_long p l) (too_long q m) = (refl, refl)
+  one words asked asks (too_long p l) (bad_line q f line kind b) = absurd (omega arith)
+  one words asked {input = input} asks (too_long p l) (output task text is f o) = absurd (long_output asked (length input) p l f)
+  one words asked asks (bad_line p f line kind b) (usage e) = absurd (plays_asked asked p e)
+  one words asked asks (bad_line p f line kind b) (too_long q l) = absurd (omega arith)
+  one words asked {input = input} asks (bad_line p f line kind b) (bad_line q g line' kind' b') =
       let both = fault_unique input line line' kind kind' b b' in (refl, ap₂ bad_line_text both.0 both.1)
-  one {input = input} (bad_line solo f line kind b) (played solo' f' script text s t) = absurd (never_both input script line kind s b)
-  one (played solo f script text s t) (usage o) = absurd (o solo)
-  one (played solo f script text s t) (too_long solo' l) = absurd (omega arith)
-  one {input = input} (played solo f script text s t) (bad_line solo' f' line kind b) = absurd (never_both input script line kind s b)
-  one {input = input} (played solo f script text s t) (played solo' f' script' text' s' t') =
-      let same : script' ≡ script = script_unique input script' script s' s in (
-        refl,
-        one_transcript first_edition operations script text text' first_is_edition keeps (spelled_playable input script s) t
-            (subst (λ (x : Script). IsTranscript first_edition operations x text') same t'),
-      )
+  one words asked {input = input} asks (bad_line p f line kind b) (output task text is g o) = absurd (bad_output operations asked input line kind task text p is b o)
+  one words asked asks (output task text is f o) (usage e) = absurd (output_asked asked task is e)
+  one words asked {input = input} asks (output task text is f o) (too_long p l) = absurd (long_output asked (length input) p l f)
+  one words asked {input = input} asks (output task text is f o) (bad_line p g line kind b) = absurd (bad_output operations asked input line kind task text p is b o)
+  one words asked {input = input} asks (output task text is f o) (output task' text' is' f' o') =
+      (refl, same_output words asked task task' input text text' asks is is' o o')
 
 -- **only one**
 pub answer_unique : InputHasOneAnswer
-answer_unique first second third words input s t text other f g h a b =
-    one (tables_keep first second third f g h) a b
+answer_unique first second third words asked input s t text other f g h asks a b =
+    one (operations_of first second third) (tables_keep first second third f g h) words asked asks a b
 
 -- ---- some answer
-same_or_not : (xs ys : List ℕ) → (xs ≡ ys) ⊎ (xs ≡ ys → ⊥)
-same_or_not xs ys = elim (cases_Bool (bytes_eq xs ys)) [
-  | inl t ↦ inl ((bytes_eq-Decides xs ys).0 t)
-  | inr f ↦ inr (λ e. true≢false (sym ((bytes_eq-Decides xs ys).1 e) ∙ f))
-]
-
-solo_or_not : (words : List (List ℕ)) → IsSolo words ⊎ (IsSolo words → ⊥)
-solo_or_not [] = inr (λ e. cc)
-solo_or_not (x ∷ y ∷ words) = inr (λ e. cc)
-solo_or_not (x ∷ []) = elim (same_or_not x (codes "solo")) [
-  | inl e ↦ inl (ap (λ t. t ∷ []) e)
-  | inr n ↦ inr (λ e. n (head_same e))
-]
-
 module _ (operations : Operations) (keeps : KeepsValues operations) (words : List (List ℕ))
     (input : List ℕ) where
-  Answered : Type 0
-  Answered = (s : ℕ) × (text : List ℕ) × Answers operations words input s text
+  Answered : Option Task → Type 0
+  Answered asked = (s : ℕ) × (text : List ℕ) × Answers operations asked input s text
 
-  solo_answer : IsSolo words → length input ≤ MAX_INPUT → Answered
+  solo_answer : length input ≤ MAX_INPUT → Answered (Some Solo)
   unfolding Answered
-  solo_answer solo fits = elim (reading_exists input) [
+  solo_answer fits = elim (reading_exists input) [
     | inl s ↦
         let (text, transcript) = some_transcript first_edition operations s.0 first_is_edition keeps (spelled_playable input s.0 s.1) in
-        (DONE, text, played solo fits s.0 text s.1 transcript)
-    | inr b ↦ (BAD_SCRIPT, bad_line_text b.0 b.1, bad_line solo fits b.0 b.1 b.2)
+        (DONE, text, output Solo text refl fits (s.0, s.1, transcript))
+    | inr b ↦ (BAD_SCRIPT, bad_line_text b.0 b.1, bad_line tt fits b.0 b.1 b.2)
   ]
 
-  some : Answered
+  some : (asked : Option Task) → Asks words asked → Answered asked
   unfolding Answered
-  some = elim (solo_or_not words) [
-    | inl solo ↦ elim (cases_lt MAX_INPUT (length input)) [
-      | inl l ↦ (BAD_SCRIPT, too_long_text MAX_INPUT, too_long solo l)
-      | inr h ↦ solo_answer solo h
-    ]
-    | inr n ↦ (NO_COMMAND, usage_text, usage n)
+  some None asks = (NO_COMMAND, usage_text, usage refl)
+  some (Some Solo) asks = elim (cases_lt MAX_INPUT (length input)) [
+    | inl l ↦ (BAD_SCRIPT, too_long_text MAX_INPUT, too_long tt l)
+    | inr h ↦ solo_answer h
   ]
+  some (Some (Gen s f m)) asks =
+      let (text, summary) = some_summary operations (generated s f m) keeps (generated_playable s f m asks.1.1) in
+      (DONE, text, output (Gen s f m) text refl tt summary)
 
 -- **there is one**
 pub answer_exists : InputHasAnswer
 unfolding Answered
-answer_exists first second third words input f g h =
-    some (operations_of first second third) (tables_keep first second third f g h) words input
+answer_exists first second third words asked input f g h asks =
+    some (operations_of first second third) (tables_keep first second third f g h) words input asked asks

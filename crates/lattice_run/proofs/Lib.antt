@@ -1,5 +1,6 @@
 pub mod PlayableScripts
 pub mod Transcribed
+pub mod NamedTasks
 pub mod Running
 pub mod Statuses
 pub mod Determined

@@ -1,4 +1,5 @@
--- A script that bytes spell can be played: its commands are proper, and there are not too many.
+-- A script that bytes spell can be played: its commands are proper, and there are not too many. So
+-- can a generated script.
 use Rattle.std.proofs.Common.{ℕ, List, [], ◌∷◌, ◌≤◌, ◌^◌, arith}
 use Rattle.std.specs.Prelude.{All, codes}
 use Rattle.std.proofs.lemmas.List.Elements.{All-head, All-tail, All-weaker}
@@ -9,7 +10,11 @@ use Rattle.lat_language.specs.declared.scripts.Script.{Script}
 use Rattle.lat_language.specs.declared.scripts.SessionScript.{SessionScript}
 use Rattle.lat_language.specs.Commands.{Fixed, Name, Number, Coefficients, IsWord}
 use Rattle.lat_language.specs.Grammar.{Spells}
+use Rattle.lat_language.specs.CanonicalText.{canonical_text}
 use Rattle.lat_language.proofs.SpelledScripts.{IsGrammatical, IsGrammaticalSession, spelled_printable}
+use Rattle.lat_gen.specs.Generated.{generated}
+use Rattle.lat_gen.specs.Theorems.{AreSizes}
+use Rattle.lat_gen.proofs.GeneratedScripts.{generated_spells}
 use Rattle.lat_session.specs.Commands.{IsProperCommand}
 use Rattle.lat_playing.specs.Plays.{IsPlayable}
 
@@ -51,3 +56,10 @@ spelled_playable bytes script h =
       few = omega (arith, p.room);
       few_sessions = p.few;
     }
+
+-- **a generated script can be played**
+pub generated_playable : (seed fields embeds : ℕ) → AreSizes fields embeds
+    → IsPlayable (generated seed fields embeds)
+generated_playable seed fields embeds sizes =
+    spelled_playable (canonical_text (generated seed fields embeds)) (generated seed fields embeds)
+    (generated_spells seed fields embeds sizes)

@@ -1,42 +1,70 @@
--- What the program answers to its words and its input.
---     IsSolo words                          the one word `solo`
---     Answers operations words input status text     the exit status, and what is written
---     IsInput words input old new           what a source gave of its bytes, from `old` to `new`
---     TakesInput words old new              how much is taken at most, whatever the status
-use Rattle.std.specs.Prelude.{◌≡◌, ℕ, ◌+◌, ◌<◌, ◌≤◌, List, [], ◌∷◌, length, drop, codes, Option, Some, IfSome}
+-- What the program answers to what it is asked for and to its input.
+--     IsSummary edition operations script text       the summary alone of a script that is played
+--     IsOutput operations task input text            what is written for a task that is done
+--     Answers operations asked input status text     the exit status, and what is written
+--     rest_of most input          what is left of an input that is read up to a limit
+--     IsInput most input old new  what a source gave of its bytes, from `old` to `new`
+--     TakesInput most old new     how much is taken at most, whatever the status
+use Rattle.std.specs.Prelude.{◌≡◌, ℕ, ◌+◌, ◌<◌, ◌≤◌, List, length, drop, Option, Some, None, IfSome}
+use Rattle.alg_model.specs.Lattices as lattices
+use Rattle.alg_model.specs.Lattices.{Lattice, first_edition}
 use Rattle.lat_io.specs.Source.{TakesAtMost}
-use Rattle.alg_model.specs.Lattices.{first_edition}
+use Rattle.lat_core.specs.SharedRows.{map_count}
+use Rattle.lat_core.specs.Histories.{IsAfter}
 use Rattle.lat_language.specs.declared.scripts.Script.{Script}
 use Rattle.lat_language.specs.Grammar.{Spells, FirstBad}
-use Rattle.lat_language.specs.Texts.{usage_text, bad_line_text, too_long_text}
+use Rattle.lat_language.specs.Texts.{usage_text, bad_line_text, too_long_text, summary_text}
+use Rattle.lat_gen.specs.Generated.{generated}
+use Rattle.lat_session.specs.Outcomes.{Operations}
+use Rattle.lat_playing.specs.Worlds.{World, IsSolo}
+use Rattle.lat_playing.specs.Transcripts.{IsTranscript}
 use Rattle.lattice_run.specs.declared.run.TheConstants.{MAX_INPUT}
 use Rattle.lattice_run.specs.declared.status.TheConstants.{DONE, NO_COMMAND, BAD_SCRIPT}
-use Rattle.lat_session.specs.Outcomes.{Operations}
-use Rattle.lat_playing.specs.Transcripts.{IsTranscript}
+use Rattle.lattice_run.specs.declared.tasks.Task.{Task}
+use Rattle.lattice_run.specs.declared.tasks.Task.TheVariants.{Solo, Gen}
+use Rattle.lattice_run.specs.Tasks.{PlaysInput, limit}
 
-abbrev pub IsSolo : List (List ℕ) → Type 0
-IsSolo words = words ≡ codes "solo" ∷ []
+-- The script is played by its schedule; the counts are those of the lattice after all changes, and
+-- of these.
+pub record IsSummary (edition : lattices.Edition) (operations : Operations) (script : Script)
+    (text : List ℕ) : Type 0 where
+  pub world : World
+  pub solo : IsSolo edition operations script world
+  pub lattice : Lattice
+  pub after : IsAfter edition world.history lattice
+  pub is : text ≡ summary_text (length lattice.rows) (map_count lattice) (length world.history)
+
+-- The transcript of the script that the input spells, or the summary alone of a generated script.
+abbrev pub IsOutput : Operations → Task → List ℕ → List ℕ → Type 0
+IsOutput operations Solo input text = (script : Script) × Spells input script
+    × IsTranscript first_edition operations script text
+IsOutput operations (Gen seed fields embeds) input text =
+    IsSummary first_edition operations (generated seed fields embeds) text
 
 -- One constructor for each kind of answer.
-pub data Answers (operations : Operations) (words : List (List ℕ)) (input : List ℕ)
+pub data Answers (operations : Operations) (asked : Option Task) (input : List ℕ)
     : ℕ → List ℕ → Type 0 where
-  usage : (IsSolo words → ⊥) → Answers operations words input NO_COMMAND usage_text
-  too_long : IsSolo words → MAX_INPUT < length input
-      → Answers operations words input BAD_SCRIPT (too_long_text MAX_INPUT)
-  bad_line : IsSolo words → length input ≤ MAX_INPUT → (line kind : ℕ) → FirstBad input line kind
-      → Answers operations words input BAD_SCRIPT (bad_line_text line kind)
-  played : IsSolo words → length input ≤ MAX_INPUT → (script : Script) (text : List ℕ)
-      → Spells input script → IsTranscript first_edition operations script text
-      → Answers operations words input DONE text
+  usage : asked ≡ None → Answers operations asked input NO_COMMAND usage_text
+  too_long : PlaysInput asked → MAX_INPUT < length input
+      → Answers operations asked input BAD_SCRIPT (too_long_text MAX_INPUT)
+  bad_line : PlaysInput asked → length input ≤ MAX_INPUT → (line kind : ℕ)
+      → FirstBad input line kind
+      → Answers operations asked input BAD_SCRIPT (bad_line_text line kind)
+  output : (task : Task) (text : List ℕ) → asked ≡ Some task
+      → IfSome (limit asked) (λ most. length input ≤ most) → IsOutput operations task input text
+      → Answers operations asked input DONE text
 
--- Where the source tells its bytes they are the input. Nothing of it is read for other words than
--- `solo`, and for `solo` all of it, but at most MAX_INPUT + 1 bytes.
-abbrev pub IsInput : List (List ℕ) → List ℕ → Option (List ℕ) → Option (List ℕ) → Type 0
-IsInput words input old new = IfSome old (λ left. (left ≡ input)
-    × ((IsSolo words → ⊥) → new ≡ old)
-    × (IsSolo words → new ≡ Some (drop (MAX_INPUT + 1) input)))
+-- Where there is no limit nothing is read, and else the limit and one byte.
+abbrev pub rest_of : Option ℕ → List ℕ → List ℕ
+rest_of None input = input
+rest_of (Some most) input = drop (most + 1) input
 
--- Nothing is taken for other words than `solo`, and else at most MAX_INPUT + 1 bytes.
-pub record TakesInput (words : List (List ℕ)) (old new : Option (List ℕ)) : Type 0 where
-  pub unread : (IsSolo words → ⊥) → new ≡ old
-  pub bounded : TakesAtMost old new (MAX_INPUT + 1)
+-- Where the source tells its bytes they are the input.
+abbrev pub IsInput : Option ℕ → List ℕ → Option (List ℕ) → Option (List ℕ) → Type 0
+IsInput most input old new =
+    IfSome old (λ left. (left ≡ input) × (new ≡ Some (rest_of most input)))
+
+-- Nothing is taken where nothing is read, and else at most the limit and one byte.
+abbrev pub TakesInput : Option ℕ → Option (List ℕ) → Option (List ℕ) → Type 0
+TakesInput None old new = new ≡ old
+TakesInput (Some most) old new = TakesAtMost old new (most + 1)

@@ -1,16 +1,28 @@
 -- How the parts of the top call leave. No public clause cites this module.
-use Rattle.std.specs.Prelude.{◌≡◌, ◌⊎◌, ℕ, List}
+use Rattle.std.specs.Prelude.{◌≡◌, ◌≢◌, ◌⊎◌, ℕ, List, ◌++◌, length, Option, Some, None, IfSome}
 use Rattle.std.specs.Io.KnownBytes.{Appends}
+use Rattle.alg_model.specs.Lattices.{Lattice}
 use Rattle.lat_io.specs.Faults.{one_more}
 use Rattle.lat_io.specs.Sink.{AppendsPart}
 use Rattle.lat_io.specs.Source.{TakesSome}
 use Rattle.lat_io.specs.Streams.{Stream}
+use Rattle.lat_core.specs.SharedRows.{map_count}
+use Rattle.lat_core.specs.Histories.{IsAfter}
 use Rattle.lat_language.specs.declared.scripts.Script.{Script}
 use Rattle.lat_language.specs.Grammar.{Spells, LeadsToScript}
+use Rattle.lat_language.specs.Texts.{summary_text}
+use Rattle.lat_history.specs.Books.{History}
 use Rattle.lat_session.specs.Outcomes.{Operations}
-use Rattle.lattice_run.specs.declared.run.TheConstants.{MAX_INPUT}
 use Rattle.lattice_run.specs.declared.status.TheConstants.{READ_FAILED, WRITE_FAILED, NO_MEMORY}
-use Rattle.lattice_run.specs.Answers.{IsSolo, Answers, IsInput}
+use Rattle.lattice_run.specs.declared.tasks.Task.{Task}
+use Rattle.lattice_run.specs.declared.tasks.Task.TheVariants.{Solo}
+use Rattle.lattice_run.specs.Tasks.{limit}
+use Rattle.lattice_run.specs.Answers.{Answers, IsInput}
+
+-- the summary of the lattice after a history was appended
+abbrev pub AddsSummary : History → List ℕ → List ℕ → Type 0
+AddsSummary book old new = (L : Lattice) × IsAfter book.edition book.entries L
+    × (new ≡ old ++ summary_text (length L.rows) (map_count L) (length book.entries))
 
 -- the text was appended, or a write failed on the way
 pub data Delivers (status : ℕ) (text : List ℕ) (sink sink' : Stream) (result : ℕ) : Type 0 where
@@ -23,25 +35,25 @@ pub data Delivers (status : ℕ) (text : List ℕ) (sink sink' : Stream) (result
 abbrev pub NeedsMemory : List ℕ → Type 0
 NeedsMemory input = LeadsToScript input ⊎ ((script : Script) × Spells input script)
 
--- An answer was delivered, or there was no memory for an input that needs it.
+-- The answer of `solo` was delivered, or there was no memory for an input that needs it.
 pub data AnswersInput (operations : Operations) (input : List ℕ) (sink sink' : Stream)
     (result : ℕ) : Type 0 where
   answered : (status : ℕ) (text : List ℕ)
-      → ((words : List (List ℕ)) → IsSolo words → Answers operations words input status text)
-      → Delivers status text sink sink' result → AnswersInput operations input sink sink' result
+      → Answers operations (Some Solo) input status text → Delivers status text sink sink' result
+      → AnswersInput operations input sink sink' result
   unanswered : NeedsMemory input → result ≡ NO_MEMORY → sink' ≡ sink
       → AnswersInput operations input sink sink' result
 
--- An answer was delivered, a read failed, or there was no memory, for the word `solo` and some
--- bytes.
-pub data Ran (operations : Operations) (words : List (List ℕ))
+-- An answer was delivered, a read failed, or there was no memory, for a task and, where it reads,
+-- some bytes.
+pub data Ran (operations : Operations) (asked : Option Task)
     (source source' sink sink' : Stream) (result : ℕ) : Type 0 where
   delivered : (input : List ℕ) (status : ℕ) (text : List ℕ) → source'.faults ≡ source.faults
-      → IsInput words input source.bytes source'.bytes
-      → Answers operations words input status text → Delivers status text sink sink' result
-      → Ran operations words source source' sink sink' result
-  unread : IsSolo words → result ≡ READ_FAILED → source'.faults ≡ one_more source.faults
-      → sink' ≡ sink → Ran operations words source source' sink sink' result
-  no_memory : IsSolo words → TakesSome source.bytes source'.bytes MAX_INPUT
+      → IsInput (limit asked) input source.bytes source'.bytes
+      → Answers operations asked input status text → Delivers status text sink sink' result
+      → Ran operations asked source source' sink sink' result
+  unread : limit asked ≢ None → result ≡ READ_FAILED → source'.faults ≡ one_more source.faults
+      → sink' ≡ sink → Ran operations asked source source' sink sink' result
+  no_memory : asked ≢ None → IfSome (limit asked) (TakesSome source.bytes source'.bytes)
       → result ≡ NO_MEMORY → source'.faults ≡ source.faults → sink' ≡ sink
-      → Ran operations words source source' sink sink' result
+      → Ran operations asked source source' sink sink' result

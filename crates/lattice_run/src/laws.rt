@@ -1,7 +1,7 @@
 //! Laws of answers: functions that do nothing, whose clauses say what holds of the definitions.
 ghost use Rattle.std.specs.Prelude.{◌≡◌};
 ghost use Rattle.lattice_run.specs.declared.run.TheConstants.{MAX_INPUT};
-ghost use Rattle.lattice_run.specs.Theorems.{InputHasAnswer, InputHasOneAnswer, InputHasOneStatus, StatusNumbers};
+ghost use Rattle.lattice_run.specs.Theorems.{WordsAsk, WordsAskOnce, InputHasAnswer, InputHasOneAnswer, InputHasOneStatus, StatusNumbers};
 
 /// The limit, and the statuses, as numbers.
 pub fn limits()
@@ -9,8 +9,14 @@ pub fn limits()
     ensures statuses { StatusNumbers }
 {}
 
-/// Words and an input have an answer, its status and its text, and only one; whatever the
-/// operations, they have one status.
+/// Words ask for a task or for none, and for one only.
+pub fn one_task()
+    ensures exists { WordsAsk }
+    ensures unique { WordsAskOnce }
+{}
+
+/// What words ask for and an input have an answer, its status and its text, and only one; whatever
+/// the operations, they have one status.
 pub fn one_answer()
     ensures exists { InputHasAnswer }
     ensures unique { InputHasOneAnswer }

@@ -3,11 +3,14 @@
 
 mod entry;
 mod laws;
+mod outputs;
 mod run;
 pub mod status;
+mod tasks;
 #[cfg(test)]
 mod tests;
 
 pub use entry::run_with;
-pub use laws::{limits, one_answer};
+pub use laws::{limits, one_answer, one_task};
 pub use run::{MAX_INPUT, run_plain};
+pub use tasks::{Task, task_of};

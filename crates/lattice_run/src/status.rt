@@ -1,10 +1,10 @@
 //! The exit statuses of the program.
 ghost use Rattle.std.specs.Prelude.{◌≡◌};
 
-/// The command was done, and its output written.
+/// The task was done, and its output written.
 pub const DONE: u8 = 0;
 
-/// The words name no command; the usage line was written.
+/// The words name no task; the usage line was written.
 pub const NO_COMMAND: u8 = 2;
 
 /// The input is too long or spells no script; its fault line was written.

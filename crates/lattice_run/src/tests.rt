@@ -85,8 +85,9 @@ fn expect_solo(
     Ok(())
 }
 
-// Runs with words that aren't `solo` alone, into a sink of this room.
-fn expect_usage(
+// Runs with words for which nothing is read, into a sink of this room: the source still gives all
+// of its bytes.
+fn expect_unread(
     rt: &impl Abort,
     alloc: Global,
     texts: &[&str],
@@ -95,10 +96,17 @@ fn expect_usage(
     held: &[u8],
 ) -> Result<(), Fail> {
     let words = words(alloc, texts)?;
-    let source = source(alloc, QUADRATIC, 100, &[])?;
-    let sink = sink(alloc, room, 100, &[])?;
-    expect(rt, &words, source, sink, alloc, status, held);
+    let mut source = source(alloc, QUADRATIC, 100, &[])?;
+    let mut sink = sink(alloc, room, 100, &[])?;
+    assert_eq!(rt; run(alloc, &words, &mut source, &mut sink), status);
+    assert_eq!(rt; sink.bytes(), held);
+    assert_eq!(rt; read_all(alloc, &mut source, 100)?.as_slice(), QUADRATIC);
     Ok(())
+}
+
+// Runs with words that name no task.
+fn expect_usage(rt: &impl Abort, alloc: Global, texts: &[&str]) -> Result<(), Fail> {
+    expect_unread(rt, alloc, texts, 1000, NO_COMMAND, USAGE)
 }
 
 // Plays one declaration from a source in such pieces, whose calls of these numbers fail.
@@ -261,11 +269,46 @@ fn plays_sessions(rt: HostRuntime) -> Result<(), Fail> {
 #[test]
 fn refuses_other_words(rt: HostRuntime) -> Result<(), Fail> {
     let alloc = rt.alloc();
-    expect_usage(&rt, alloc, &["--help"], 1000, NO_COMMAND, USAGE)?;
-    expect_usage(&rt, alloc, &["solo", "x"], 1000, NO_COMMAND, USAGE)?;
-    expect_usage(&rt, alloc, &[], 1000, NO_COMMAND, USAGE)?;
-    expect_usage(&rt, alloc, &[""], 1000, NO_COMMAND, USAGE)?;
-    expect_usage(&rt, alloc, &["--help"], 3, WRITE_FAILED, b"usa")
+    expect_usage(&rt, alloc, &["--help"])?;
+    expect_usage(&rt, alloc, &["-"])?;
+    expect_usage(&rt, alloc, &["solo", "x"])?;
+    expect_usage(&rt, alloc, &["gen", "1", "1"])?;
+    expect_usage(&rt, alloc, &["gen", "1", "1", "1", "1"])?;
+    expect_usage(&rt, alloc, &["solo", "1", "1", "1"])?;
+    expect_usage(&rt, alloc, &[])?;
+    expect_usage(&rt, alloc, &[""])?;
+    expect_unread(&rt, alloc, &["--help"], 3, WRITE_FAILED, b"usa")
+}
+
+#[test]
+fn refuses_other_numbers(rt: HostRuntime) -> Result<(), Fail> {
+    let alloc = rt.alloc();
+    expect_usage(&rt, alloc, &["gen", "1", "0", "0"])?;
+    expect_usage(&rt, alloc, &["gen", "01", "1", "1"])?;
+    expect_usage(&rt, alloc, &["gen", "+1", "1", "1"])?;
+    expect_usage(&rt, alloc, &["gen", "", "1", "1"])?;
+    expect_usage(&rt, alloc, &["gen", "1", "181", "0"])?;
+    expect_usage(&rt, alloc, &["gen", "1", "1", "2001"])?;
+    expect_usage(&rt, alloc, &["gen", "18446744073709551616", "1", "1"])
+}
+
+#[test]
+fn plays_generated_scripts(rt: HostRuntime) -> Result<(), Fail> {
+    let alloc = rt.alloc();
+    let text = b"summary fields 12 maps 13 changes 2\n";
+    expect_unread(&rt, alloc, &["gen", "1", "1", "1"], 1000, DONE, text)?;
+    expect_unread(
+        &rt,
+        alloc,
+        &["gen", "1", "1", "1"],
+        7,
+        WRITE_FAILED,
+        b"summary",
+    )?;
+    // the greatest seed: the fields have degrees 2, 2 and 12 and characteristics 2, 3 and 2
+    let text = b"summary fields 14 maps 17 changes 3\n";
+    let seed = "18446744073709551615";
+    expect_unread(&rt, alloc, &["gen", seed, "3", "0"], 1000, DONE, text)
 }
 
 #[test]

@@ -1,4 +1,4 @@
--- Words and an input have one answer.
+-- What words ask for and an input have one answer.
 use Rattle.lattice_run.proofs.Determined.{status_unique}
 use Rattle.lattice_run.proofs.Answered.{answer_exists, answer_unique}
 use Rattle.lattice_run.proofs.laws.one_answer.Goals as goal
@@ -10,4 +10,4 @@ pub returns-clause-unique : goal.returns-clause-unique
 returns-clause-unique c = answer_unique
 
 pub returns-clause-status : goal.returns-clause-status
-returns-clause-status c = λ operations words input s t text other a b. status_unique a b
+returns-clause-status c = λ operations asked input s t text other a b. status_unique a b

@@ -1,35 +1,19 @@
--- Each way out of the run.
-use Rattle.std.proofs.Common.{map, string_bytes, subst, sym, arith}
-use Rattle.lat_io.specs.Source.{ReadWhole}
-use Rattle.lattice_run.specs.Answers.{IsSolo}
-use Rattle.lattice_run.proofs.Running.{ran_usage, ran_too_long, ran_input, not_solo, unread_takes, whole_takes, before_takes}
+-- What is asked for, by its cases.
+use Rattle.std.proofs.Common.{◌≡◌, Some, rules}
+use Rattle.lattice_run.specs.declared.tasks.Task.TheVariants.{Solo, Gen}
+use Rattle.lattice_run.proofs.Running.{ran_for, ran_usage}
 use Rattle.lattice_run.proofs.run.run.Goals as goal
 
-pub returns-then-not-is_solo-clause-ran : goal.returns-then-not-is_solo-clause-ran
-returns-then-not-is_solo-clause-ran g c =
-    let other : IsSolo (map string_bytes c.args.words.now) → ⊥ = λ solo. not_solo c.is_solo.result (c.is_solo.ensures.1 solo) c.if-not-is_solo.true in
-    ran_usage _ _ _ _ c.deliver.result c.usage_line.result.now other c.usage_line.ensures c.deliver.ensures
+pub returns-in-None-clause-ran : goal.returns-in-None-clause-ran
+returns-in-None-clause-ran g c =
+    ran_for _ _ _ _ _ _ _ c.in-None.is (ran_usage _ _ _ c.deliver.result c.usage_line.result.now c.usage_line.ensures c.deliver.ensures)
 
-pub returns-then-not-is_solo-clause-taken : goal.returns-then-not-is_solo-clause-taken
-returns-then-not-is_solo-clause-taken g c = unread_takes _ _
+pub returns-in-Some-Solo-clause-ran : goal.returns-in-Some-Solo-clause-ran
+returns-in-Some-Solo-clause-ran g c =
+    let asked : c.args.asked ≡ Some Solo = search rules in
+    ran_for _ _ _ _ _ _ _ asked c.run_solo.ensures.ran
 
-pub returns-in-Ok-clause-ran : goal.returns-in-Ok-clause-ran
-returns-in-Ok-clause-ran g c =
-    ran_input _ _ _ _ _ c.answer.result c.deref.result.now (c.is_solo.ensures.0 c.if-not-is_solo.false) (c.in-Ok.ensures.unfailed (λ e. cc))
-    (omega (arith, c.in-Ok.ensures.within, c.deref.ensures.len))
-    (subst (λ xs. ReadWhole (g.S.Source.left c.args.source.now) (g.S.Source.left c.read_all.new.source) xs) (sym c.deref.ensures.value) c.in-Ok.ensures.whole)
-    c.answer.ensures
-
-pub returns-in-Ok-clause-taken : goal.returns-in-Ok-clause-taken
-returns-in-Ok-clause-taken g c =
-    whole_takes _ _ _ c.in-Ok.input.items (c.is_solo.ensures.0 c.if-not-is_solo.false) (omega (arith, c.in-Ok.ensures.within, c.deref.ensures.len)) c.in-Ok.ensures.whole
-
-pub returns-in-Err-TooLong-clause-ran : goal.returns-in-Err-TooLong-clause-ran
-returns-in-Err-TooLong-clause-ran g c =
-    let taken = (rw (c.in-Err-TooLong.field-0-is) at c.in-Err-TooLong.ensures.fault) in
-    ran_too_long _ _ _ _ _ c.deliver-in-Err-TooLong.result c.too_long_line.result.now (c.is_solo.ensures.0 c.if-not-is_solo.false)
-    (let is_long = c.in-Err-TooLong.field-0-is in c.in-Err-TooLong.ensures.unfailed (λ e. cc)) taken.1 c.too_long_line.ensures c.deliver-in-Err-TooLong.ensures
-
-pub returns-in-Err-TooLong-clause-taken : goal.returns-in-Err-TooLong-clause-taken
-returns-in-Err-TooLong-clause-taken g c =
-    before_takes _ _ _ _ (c.is_solo.ensures.0 c.if-not-is_solo.false) c.in-Err-TooLong.ensures.fault
+pub returns-in-Some-Gen-clause-ran : goal.returns-in-Some-Gen-clause-ran
+returns-in-Some-Gen-clause-ran g c =
+    let asked : c.args.asked ≡ Some (Gen c.in-Some-Gen.seed c.in-Some-Gen.fields c.in-Some-Gen.embeds) = search rules in
+    ran_for _ _ _ _ _ _ _ asked (c.run_gen.ensures _)
