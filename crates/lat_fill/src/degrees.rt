@@ -18,7 +18,7 @@ pub type DegreeList = ArrayVec<u32, MAX_DEGREE>;
 
 /// The degrees that field `from` and field `into` lack, lowest first: those of the closure of their
 /// members' degrees under greatest common divisors that no member has. A member is a field with a
-/// stored map into one of the two.
+/// stored map into one of the two, which are numbers of fields. Each degree is 1 to `MAX_DEGREE`.
 pub fn missing(lattice: &Lattice, from: u32, into: u32) -> DegreeList
     requires fields { AreFields lattice.now from into }
     ensures missing { AreMissing lattice.now from into result.items }

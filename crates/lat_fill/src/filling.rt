@@ -45,7 +45,8 @@ fn ways(lattice: &Lattice, members: &[Member]) -> Result<Vec<SharedMap>, NoMemor
 ///
 /// The fields that go into `into` are listed with their maps into it; between two of them whose
 /// degrees divide, the one map that agrees with these is stored, and each of them gets a map into
-/// each field that another one of them, into which it goes, has a map into.
+/// each field that another one of them, into which it goes, has a map into. `NoMemory` is the only
+/// fault; no clause says when it comes.
 pub fn fill(lattice: &Lattice, from: u32, into: u32, phi: &Embedding) -> Result<Filled, NoMemory>
     requires fields { AreFields lattice.now from into }
     requires candidate { (sending : Option (List ℕ × List ℕ)) × (v : List ℕ)

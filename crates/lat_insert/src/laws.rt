@@ -16,8 +16,9 @@ pub fn irreducible_polynomials_are_declared()
     ensures digits { DeclarableHasDigits }
 {}
 
-/// What an insertion adds is forced: no compatible lattice that has grown and stores the new map
-/// does with less.
+/// What an insertion adds is forced: each compatible lattice that has grown and stores the new map
+/// has fields of the added degrees; and where it has the rows after the step, and the added fields'
+/// maps into the target, it has all maps after the step.
 pub fn insertions_are_forced()
     ensures fields { MadeFieldsAreForced }
     ensures maps { LinkedMapsAreForced }

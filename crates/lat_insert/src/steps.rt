@@ -14,9 +14,9 @@ use lat_core::{Lattice, NoMemory, Reply, Request};
 /// Does what is requested of the lattice, and answers it.
 ///
 /// A field is declared under a declared name. The lattice after the step is built beside the one
-/// before it, and put in its place by one assignment. After a refusal, or where memory is refused,
-/// it is as it was. Memory is taken only for a declaration of a field that isn't there already, and
-/// for an embedding that adds maps.
+/// before it, and put in its place by one assignment. After a refusal, or where `NoMemory` is
+/// answered, it is as it was. `NoMemory` is answered only where a field would be declared that
+/// isn't there already, or an embedding would add maps.
 pub fn step(lattice: &mut Lattice, request: &Request) -> Result<Reply, NoMemory>
     requires proper { IsProperRequest request.now }
     ensures step { IfOk result (λ reply. Steps lattice.old request.now reply lattice.new) }
