@@ -9,22 +9,26 @@ use Rattle.natural_ops.proofs.TableValues.{value_at_valid}
 use Rattle.lat_gen.specs.Generated.{generated}
 use Rattle.lat_language.specs.declared.commands.Op.TheVariants.{First, Second, Third}
 use Rattle.lat_language.specs.declared.scripts.Script.{Script}
-use Rattle.lat_language.specs.Texts.{usage_text, bad_line_text, too_long_text}
+use Rattle.lat_core.specs.SharedRows.{map_count}
+use Rattle.lat_language.specs.Texts.{usage_text, bad_line_text, too_long_text, summary_text}
 use Rattle.lat_language.proofs.OneMeaning.{script_unique, fault_unique}
 use Rattle.lat_language.proofs.SomeMeaning.{reading_exists}
 use Rattle.lat_session.specs.Outcomes.{Operations, operations_of, KeepsValues}
-use Rattle.lat_playing.specs.Transcripts.{IsTranscript}
+use Rattle.lat_playing.specs.Plays.{IsPlayable}
 use Rattle.lat_playing.proofs.ScriptLaws.{one_transcript, some_transcript}
 use Rattle.lattice_run.specs.declared.run.TheConstants.{MAX_INPUT}
 use Rattle.lattice_run.specs.declared.status.TheConstants.{DONE, NO_COMMAND, BAD_SCRIPT}
 use Rattle.lattice_run.specs.declared.tasks.Task.{Task}
-use Rattle.lattice_run.specs.declared.tasks.Task.TheVariants.{Solo, Gen}
+use Rattle.lattice_run.specs.declared.tasks.Output.{Output}
+use Rattle.lattice_run.specs.declared.tasks.Output.TheVariants.{Transcript, Dump}
+use Rattle.lattice_run.specs.declared.tasks.Task.TheVariants.{Play, Gen}
 use Rattle.lattice_run.specs.Tasks.{IsProper, Asks}
-use Rattle.lattice_run.specs.Answers.{IsOutput, Answers}
+use Rattle.lat_audit.specs.Dumps.{dump_text}
+use Rattle.lattice_run.specs.Answers.{IsPlayed, IsOutput, Answers}
 use Rattle.lattice_run.specs.Answers.Answers.{usage, too_long, bad_line, output}
 use Rattle.lattice_run.specs.Theorems.{InputHasAnswer, InputHasOneAnswer}
 use Rattle.lattice_run.proofs.PlayableScripts.{spelled_playable, generated_playable}
-use Rattle.lattice_run.proofs.Transcribed.{some_summary, one_summary}
+use Rattle.lattice_run.proofs.Transcribed.{some_final, one_summary, one_dump}
 use Rattle.lattice_run.proofs.Determined.{plays_asked, output_asked, long_output, bad_output}
 
 -- what the operations of tables give are values
@@ -36,12 +40,18 @@ tables_keep first second third f s t Third K a W v = value_at_valid third K a t 
 
 -- ---- one answer
 module _ (operations : Operations) (keeps : KeepsValues operations) where
+  one_played : (wanted : Output) (script : Script) (text other : List ℕ) → IsPlayable script
+      → IsPlayed operations wanted script text → IsPlayed operations wanted script other → text ≡ other
+  one_played Transcript script text other playable t u =
+      one_transcript first_edition operations script text other first_is_edition keeps playable t u
+  one_played Dump script text other playable d e = one_dump operations script keeps playable text other d e
+
   one_output : (task : Task) (input text other : List ℕ) → IsProper task
       → IsOutput operations task input text → IsOutput operations task input other → text ≡ other
-  one_output Solo input text other proper (script, s, t) (script', s', t') =
+  one_output (Play wanted) input text other proper (script, s, t) (script', s', t') =
       let same : script' ≡ script = script_unique input script' script s' s in
-      one_transcript first_edition operations script text other first_is_edition keeps (spelled_playable input script s) t
-      (subst (λ (x : Script). IsTranscript first_edition operations x other) same t')
+      one_played wanted script text other (spelled_playable input script s) t
+      (subst (λ (x : Script). IsPlayed operations wanted x other) same t')
   one_output (Gen s f m) input text other proper a b =
       one_summary operations (generated s f m) keeps (generated_playable s f m proper.1) text other a b
 
@@ -87,25 +97,33 @@ module _ (operations : Operations) (keeps : KeepsValues operations) (words : Lis
   Answered : Option Task → Type 0
   Answered asked = (s : ℕ) × (text : List ℕ) × Answers operations asked input s text
 
-  solo_answer : length input ≤ MAX_INPUT → Answered (Some Solo)
+  some_played : (wanted : Output) (script : Script) → IsPlayable script
+      → (text : List ℕ) × IsPlayed operations wanted script text
+  some_played Transcript script playable =
+      some_transcript first_edition operations script first_is_edition keeps playable
+  some_played Dump script playable =
+      let f = some_final operations script keeps playable in (dump_text f.lattice, (f, refl))
+
+  played_answer : (wanted : Output) → length input ≤ MAX_INPUT → Answered (Some (Play wanted))
   unfolding Answered
-  solo_answer fits = elim (reading_exists input) [
+  played_answer wanted fits = elim (reading_exists input) [
     | inl s ↦
-        let (text, transcript) = some_transcript first_edition operations s.0 first_is_edition keeps (spelled_playable input s.0 s.1) in
-        (DONE, text, output Solo text refl fits (s.0, s.1, transcript))
+        let (text, played) = some_played wanted s.0 (spelled_playable input s.0 s.1) in
+        (DONE, text, output (Play wanted) text refl fits (s.0, s.1, played))
     | inr b ↦ (BAD_SCRIPT, bad_line_text b.0 b.1, bad_line tt fits b.0 b.1 b.2)
   ]
 
   some : (asked : Option Task) → Asks words asked → Answered asked
   unfolding Answered
   some None asks = (NO_COMMAND, usage_text, usage refl)
-  some (Some Solo) asks = elim (cases_lt MAX_INPUT (length input)) [
+  some (Some (Play wanted)) asks = elim (cases_lt MAX_INPUT (length input)) [
     | inl l ↦ (BAD_SCRIPT, too_long_text MAX_INPUT, too_long tt l)
-    | inr h ↦ solo_answer h
+    | inr h ↦ played_answer wanted h
   ]
   some (Some (Gen s f m)) asks =
-      let (text, summary) = some_summary operations (generated s f m) keeps (generated_playable s f m asks.1.1) in
-      (DONE, text, output (Gen s f m) text refl tt summary)
+      let f' = some_final operations (generated s f m) keeps (generated_playable s f m asks.1.1) in
+      let text = summary_text (length f'.lattice.rows) (map_count f'.lattice) (length f'.world.history) in
+      (DONE, text, output (Gen s f m) text refl tt (f', refl))
 
 -- **there is one**
 pub answer_exists : InputHasAnswer

@@ -1,12 +1,13 @@
 -- What words ask for and an input have at most one status.
 use Rattle.std.proofs.Common.{◌≡◌, ℕ, ◌<◌, ◌≤◌, List, length, refl, ◌∙◌, sym, ap, subst, arith, Option, Some, None}
 use Rattle.std.specs.Prelude.{IfSome}
-use Rattle.lat_language.specs.Grammar.{FirstBad}
+use Rattle.lat_language.specs.declared.scripts.Script.{Script}
+use Rattle.lat_language.specs.Grammar.{Spells, FirstBad}
 use Rattle.lat_language.proofs.OneMeaning.{never_both}
 use Rattle.lat_session.specs.Outcomes.{Operations}
 use Rattle.lattice_run.specs.declared.run.TheConstants.{MAX_INPUT}
 use Rattle.lattice_run.specs.declared.tasks.Task.{Task}
-use Rattle.lattice_run.specs.declared.tasks.Task.TheVariants.{Solo, Gen}
+use Rattle.lattice_run.specs.declared.tasks.Task.TheVariants.{Play, Gen}
 use Rattle.lattice_run.specs.Tasks.{PlaysInput, limit}
 use Rattle.lattice_run.specs.Answers.{IsOutput, Answers}
 use Rattle.lattice_run.specs.Answers.Answers.{usage, too_long, bad_line, output}
@@ -22,29 +23,29 @@ output_asked asked task is e = cc
 -- it reads,
 pub plays_limit : (asked : Option Task) → PlaysInput asked → limit asked ≡ None → ⊥
 plays_limit None p e = p
-plays_limit (Some Solo) p e = cc
+plays_limit (Some (Play o)) p e = cc
 plays_limit (Some (Gen s f m)) p e = p
 
 -- at most the limit of a script,
 pub plays_fits : (asked : Option Task) (n : ℕ) → PlaysInput asked
     → IfSome (limit asked) (λ most. n ≤ most) → n ≤ MAX_INPUT
 plays_fits None n p fits = absurd p
-plays_fits (Some Solo) n p fits = fits
+plays_fits (Some (Play o)) n p fits = fits
 plays_fits (Some (Gen s f m)) n p fits = absurd p
 
--- and its output is that of a script
-pub plays_output : (operations : Operations) (asked : Option Task) (task : Task)
+-- and its output is that of a script that the input spells
+pub plays_script : (operations : Operations) (asked : Option Task) (task : Task)
     (input text : List ℕ) → PlaysInput asked → asked ≡ Some task
-    → IsOutput operations task input text → IsOutput operations Solo input text
-plays_output operations asked Solo input text p e o = o
-plays_output operations asked (Gen s f m) input text p e o = absurd (subst PlaysInput e p)
+    → IsOutput operations task input text → (script : Script) × Spells input script
+plays_script operations asked (Play wanted) input text p e o = (o.0, o.1)
+plays_script operations asked (Gen s f m) input text p e o = absurd (subst PlaysInput e p)
 
 -- a bad line and an output exclude each other,
 pub bad_output : (operations : Operations) (asked : Option Task) (input : List ℕ) (line kind : ℕ)
     (task : Task) (text : List ℕ) → PlaysInput asked → asked ≡ Some task
     → FirstBad input line kind → IsOutput operations task input text → ⊥
 bad_output operations asked input line kind task text p is b o =
-    let played = plays_output operations asked task input text p is o in
+    let played = plays_script operations asked task input text p is o in
     never_both input played.0 line kind played.1 b
 
 -- and so do an input that is too long and an output
@@ -77,7 +78,7 @@ module _ {operations : Operations} {asked : Option Task} {input : List ℕ} wher
 unread_output : (operations : Operations) (asked : Option Task) (task : Task)
     (input other text : List ℕ) → limit asked ≡ None → asked ≡ Some task
     → IsOutput operations task input text → IsOutput operations task other text
-unread_output operations asked Solo input other text none is o =
+unread_output operations asked (Play wanted) input other text none is o =
     absurd (plays_limit asked (subst PlaysInput (sym is) tt) none)
 unread_output operations asked (Gen s f m) input other text none is o = o
 

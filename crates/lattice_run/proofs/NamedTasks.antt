@@ -1,5 +1,5 @@
 -- Which task words name.
-use Rattle.std.proofs.Common.{◌≡◌, ℕ, ◌+◌, ◌≤◌, ◌<◌, ◌^◌, List, [], ◌∷◌, length, refl, ◌∙◌, sym, ap, ap₂, subst, arith, Option, Some, None, Bool, true, false, inl, inr}
+use Rattle.std.proofs.Common.{◌≡◌, ℕ, ◌+◌, ◌≤◌, ◌<◌, ◌^◌, List, [], ◌∷◌, length, refl, ◌∙◌, sym, ap, ap₂, subst, arith, lit<, Option, Some, None, Bool, true, false, inl, inr}
 use Rattle.std.specs.Prelude.{◌⊎◌, ◌≢◌, bytes_eq, codes, decimal, Result, Ok, Err}
 use Rattle.std.specs.Str.Parse.{ParsesUnsigned}
 use Rattle.std.proofs.lemmas.Bool.{cases_lt, cases_Bool, true≢false}
@@ -9,8 +9,10 @@ use Rattle.lat_gen.specs.declared.scripts.TheConstants.{MAX_GENERATED_FIELDS, MA
 use Rattle.lat_gen.specs.Theorems.{AreSizes}
 use Rattle.lat_language.specs.PrivateDecisions.{decide_number}
 use Rattle.lattice_run.specs.declared.tasks.Task.{Task}
-use Rattle.lattice_run.specs.declared.tasks.Task.TheVariants.{Solo, Gen}
-use Rattle.lattice_run.specs.Tasks.{IsTask, Asks}
+use Rattle.lattice_run.specs.declared.tasks.Output.{Output}
+use Rattle.lattice_run.specs.declared.tasks.Output.TheVariants.{Transcript, Dump}
+use Rattle.lattice_run.specs.declared.tasks.Task.TheVariants.{Play, Gen}
+use Rattle.lattice_run.specs.Tasks.{word_of, IsTask, Asks}
 use Rattle.lattice_run.specs.Theorems.{WordsAsk, WordsAskOnce}
 
 -- ---- numbers
@@ -40,12 +42,27 @@ number_above word number n bound small is above l also =
 head_same : {x y : List ℕ} → x ∷ [] ≡ y ∷ [] → x ≡ y
 head_same e = cc
 
-solo_named : (a : List ℕ) → a ≡ codes "solo" → Asks (a ∷ []) (Some Solo)
-solo_named a e = (ap (λ t. t ∷ []) e, tt)
+pub word_named : (a : List ℕ) (output : Output) → a ≡ word_of output
+    → Asks (a ∷ []) (Some (Play output))
+word_named a output e = (ap (λ t. t ∷ []) e, tt)
 
-solo_alone : (a : List ℕ) → (a ≡ codes "solo" → ⊥) → Asks (a ∷ []) None
-solo_alone a other Solo named = other (head_same named.0)
-solo_alone a other (Gen s f e) named = let l = ap length named.0 in omega arith
+pub other_word : (a : List ℕ) → (a ≡ codes "solo" → ⊥) → (a ≡ codes "dump" → ⊥)
+    → Asks (a ∷ []) None
+other_word a solo dump (Play Transcript) named = solo (head_same named.0)
+other_word a solo dump (Play Dump) named = dump (head_same named.0)
+other_word a solo dump (Gen s f e) named = let l = ap length named.0 in omega arith
+
+heads_differ : (x y : ℕ) (xs ys : List ℕ) → x < y → x ∷ xs ≡ y ∷ ys → ⊥
+heads_differ x y xs ys l e = let same : x ≡ y = cc in omega (arith, l)
+
+-- the words differ
+same_output : (o p : Output) → word_of o ≡ word_of p → o ≡ p
+same_output Transcript Transcript e = refl
+same_output Transcript Dump e =
+    absurd (heads_differ 100 115 (117 ∷ 109 ∷ 112 ∷ []) (111 ∷ 108 ∷ 111 ∷ []) (lit< tt) (sym e))
+same_output Dump Transcript e =
+    absurd (heads_differ 100 115 (117 ∷ 109 ∷ 112 ∷ []) (111 ∷ 108 ∷ 111 ∷ []) (lit< tt) e)
+same_output Dump Dump e = refl
 
 -- ---- four words
 -- the numbers of the task that four words name
@@ -62,7 +79,7 @@ module _ (a b c d : List ℕ) where
     pub sizes : AreSizes f e
 
   gen_numbers : (task : Task) → IsTask four task → (s f e : ℕ) × IsGen s f e
-  gen_numbers Solo named = let l = ap length named.0 in absurd (omega arith)
+  gen_numbers (Play o) named = let l = ap length named.0 in absurd (omega arith)
   gen_numbers (Gen s f e) named =
       let same : four ≡ codes "gen" ∷ decimal s ∷ decimal f ∷ decimal e ∷ [] = named.0 in
       (s, f, e, record { word = cc; seed = cc; fields = cc; embeds = cc; small = named.1.0; sizes = named.1.1 })
@@ -97,15 +114,15 @@ module _ (a b c d : List ℕ) where
 -- a task has one word or four
 other_count : (words : List (List ℕ)) → (length words ≡ 1 → ⊥) → (length words ≡ 4 → ⊥)
     → Asks words None
-other_count words one many Solo named = one (ap length named.0)
+other_count words one many (Play o) named = one (ap length named.0)
 other_count words one many (Gen s f e) named = many (ap length named.0)
 
 -- ---- one task, or none
 same_task : (words : List (List ℕ)) (task other : Task) → IsTask words task → IsTask words other
     → task ≡ other
-same_task words Solo Solo a b = refl
-same_task words Solo (Gen s f e) a b = let l = ap length (sym a.0 ∙ b.0) in absurd (omega arith)
-same_task words (Gen s f e) Solo a b = let l = ap length (sym a.0 ∙ b.0) in absurd (omega arith)
+same_task words (Play o) (Play p) a b = ap Play (same_output o p (head_same (sym a.0 ∙ b.0)))
+same_task words (Play o) (Gen s f e) a b = let l = ap length (sym a.0 ∙ b.0) in absurd (omega arith)
+same_task words (Gen s f e) (Play o) a b = let l = ap length (sym a.0 ∙ b.0) in absurd (omega arith)
 same_task words (Gen s f e) (Gen t g i) a b =
     let same : codes "gen" ∷ decimal s ∷ decimal f ∷ decimal e ∷ [] ≡ codes "gen" ∷ decimal t ∷ decimal g ∷ decimal i ∷ [] = sym a.0 ∙ b.0 in
     let seed : decimal s ≡ decimal t = cc in
@@ -135,8 +152,11 @@ Asked words = (asked : Option Task) × Asks words asked
 one_asked : (a : List ℕ) → Asked (a ∷ [])
 unfolding Asked
 one_asked a = elim (same_or_not a (codes "solo")) [
-  | inl e ↦ (Some Solo, solo_named a e)
-  | inr n ↦ (None, solo_alone a n)
+  | inl e ↦ (Some (Play Transcript), word_named a Transcript e)
+  | inr solo ↦ elim (same_or_not a (codes "dump")) [
+    | inl e ↦ (Some (Play Dump), word_named a Dump e)
+    | inr dump ↦ (None, other_word a solo dump)
+  ]
 ]
 
 -- the numbers of four words, one after the other

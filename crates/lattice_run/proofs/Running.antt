@@ -13,13 +13,13 @@ use Rattle.lat_language.specs.Texts.{usage_text, bad_line_text, too_long_text}
 use Rattle.alg_model.specs.Lattices.{first_edition}
 use Rattle.lat_gen.specs.Generated.{generated}
 use Rattle.lat_session.specs.Outcomes.{Operations}
-use Rattle.lat_playing.specs.Transcripts.{IsTranscript}
 use Rattle.lattice_run.specs.declared.run.TheConstants.{MAX_INPUT}
 use Rattle.lattice_run.specs.declared.status.TheConstants.{DONE, NO_COMMAND, BAD_SCRIPT, NO_MEMORY}
 use Rattle.lattice_run.specs.declared.tasks.Task.{Task}
-use Rattle.lattice_run.specs.declared.tasks.Task.TheVariants.{Solo, Gen}
+use Rattle.lattice_run.specs.declared.tasks.Output.{Output}
+use Rattle.lattice_run.specs.declared.tasks.Task.TheVariants.{Play, Gen}
 use Rattle.lattice_run.specs.Tasks.{limit}
-use Rattle.lattice_run.specs.Answers.{IsSummary, IsInput, TakesInput}
+use Rattle.lattice_run.specs.Answers.{IsSummary, IsPlayed, IsInput, TakesInput}
 use Rattle.lattice_run.specs.Answers.Answers.{usage, too_long, bad_line, output}
 use Rattle.lattice_run.specs.PrivateRuns.{Delivers, NeedsMemory, AnswersInput, Ran}
 use Rattle.lattice_run.specs.PrivateRuns.AnswersInput.{answered, unanswered}
@@ -87,12 +87,13 @@ needs_not_empty input (inl leads) = leading_not_empty input leads
 needs_not_empty input (inr (script, spelled)) = spelled_not_empty input script spelled
 
 -- ---- the run
-module _ {operations : Operations} (source source' sink sink' : Stream) (result : ℕ) where
+module _ {operations : Operations} (wanted : Output) (source source' sink sink' : Stream)
+    (result : ℕ) where
   -- an answer to the input, or want of memory for it, is a way out of the run
   pub ran_input : (input : List ℕ) → source'.faults ≡ source.faults → length input ≤ MAX_INPUT
       → ReadWhole source.bytes source'.bytes input
-      → AnswersInput operations input sink sink' result
-      → Ran operations (Some Solo) source source' sink sink' result
+      → AnswersInput operations wanted input sink sink' result
+      → Ran operations (Some (Play wanted)) source source' sink sink' result
   ran_input input u fits h (answered status text a d) =
       delivered input status text u (whole_input source.bytes source'.bytes input fits h) a d
   ran_input input u fits h (unanswered needs e k) =
@@ -102,25 +103,26 @@ module _ {operations : Operations} (source source' sink sink' : Stream) (result 
   pub ran_too_long : (text : List ℕ) → source'.faults ≡ source.faults
       → TakesFront source.bytes source'.bytes (MAX_INPUT + 1) → text ≡ too_long_text MAX_INPUT
       → Delivers BAD_SCRIPT text sink sink' result
-      → Ran operations (Some Solo) source source' sink sink' result
+      → Ran operations (Some (Play wanted)) source source' sink sink' result
   ran_too_long text u taken is d =
       let (input, long, whole) = long_input source.bytes source'.bytes taken in
       delivered input BAD_SCRIPT (too_long_text MAX_INPUT) u whole (too_long tt long) (subst (λ t. Delivers BAD_SCRIPT t sink sink' result) is d)
 
-module _ {operations : Operations} (input : List ℕ) (sink sink' : Stream) (result : ℕ) where
+module _ {operations : Operations} (wanted : Output) (input : List ℕ) (sink sink' : Stream)
+    (result : ℕ) where
   -- the line for a first fault answers the input
   pub answered_bad : (line kind : ℕ) (text : List ℕ) → length input ≤ MAX_INPUT
       → FirstBad input line kind → text ≡ bad_line_text line kind
-      → Delivers BAD_SCRIPT text sink sink' result → AnswersInput operations input sink sink' result
+      → Delivers BAD_SCRIPT text sink sink' result → AnswersInput operations wanted input sink sink' result
   answered_bad line kind text fits bad is d =
       answered BAD_SCRIPT (bad_line_text line kind) (bad_line tt fits line kind bad) (subst (λ t. Delivers BAD_SCRIPT t sink sink' result) is d)
 
-  -- the transcript answers it
+  -- what is wanted of the script answers it
   pub answered_played : (script : Script) (text : List ℕ) → length input ≤ MAX_INPUT
-      → Spells input script → IsTranscript first_edition operations script text
-      → Delivers DONE text sink sink' result → AnswersInput operations input sink sink' result
+      → Spells input script → IsPlayed operations wanted script text
+      → Delivers DONE text sink sink' result → AnswersInput operations wanted input sink sink' result
   answered_played script text fits spelled plays d =
-      answered DONE text (output Solo text refl fits (script, spelled, plays)) d
+      answered DONE text (output (Play wanted) text refl fits (script, spelled, plays)) d
 
 module _ {operations : Operations} (source sink sink' : Stream) (result : ℕ) where
   -- the usage line answers other words

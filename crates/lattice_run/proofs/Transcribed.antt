@@ -1,5 +1,5 @@
--- The lines of a play and the summary are the transcript of its script, and the summary alone is
--- that of its script.
+-- The lines of a play and the summary are the transcript of its script; the summary alone, and the
+-- dump of the lattice, are those of its script.
 use Rattle.std.proofs.Common.{◌≡◌, ℕ, List, [], ◌++◌, length, refl, sym, ap, ap₂, ◌∙◌, subst}
 use Rattle.alg_model.specs.Lattices.{Lattice, first_edition}
 use Rattle.ff_poly.specs.Polynomial.{Polynomial}
@@ -18,7 +18,8 @@ use Rattle.lat_playing.specs.Transcripts.{IsTranscript}
 use Rattle.lat_playing.specs.Plays.{IsPlayable, Performs}
 use Rattle.lat_playing.proofs.ScriptLaws.{one_solo, some_transcript}
 use Rattle.alg_compatible.proofs.Editions.{first_is_edition}
-use Rattle.lattice_run.specs.Answers.{IsSummary}
+use Rattle.lat_audit.specs.Dumps.{dump_text}
+use Rattle.lattice_run.specs.Answers.{Final, IsSummary, IsDump}
 use Rattle.lattice_run.specs.Headline.{Headline}
 use Rattle.lattice_run.specs.PrivateRuns.{AddsSummary}
 
@@ -54,53 +55,59 @@ module _ (operations : Operations) (script : Script) where
     };
   }
 
+  -- **the world of a script that was played, and its lattice**
+  abbrev final_of : (p : Performance) (L : Lattice) → Performs first_edition operations script p
+      → IsAfter p.book.edition p.book.entries L → Final first_edition operations script
+  final_of p L P after =
+      record { world = P.world; solo = P.solo; lattice = L; after = lattice_after p L P after }
+
   -- **its summary alone**
   pub summary_is : (p : Performance) (text : List ℕ) → Performs first_edition operations script p
       → AddsSummary p.book [] text → IsSummary first_edition operations script text
-  summary_is p text P (L, after, is) = record {
-    world = P.world;
-    solo = P.solo;
-    lattice = L;
-    after = lattice_after p L P after;
-    is = is ∙ ap (λ (es : List Entry). summary_text (length L.rows) (map_count L) (length es)) P.history;
-  }
+  summary_is p text P (L, after, is) = (
+    final_of p L P after,
+    is ∙ ap (λ (es : List Entry). summary_text (length L.rows) (map_count L) (length es)) P.history,
+  )
 
-  -- a playable script has a summary
-  pub some_summary : KeepsValues operations → IsPlayable script
-      → (text : List ℕ) × IsSummary first_edition operations script text
-  some_summary keeps playable =
-      let (text, t) = some_transcript first_edition operations script first_is_edition keeps playable in (
-        summary_text (length t.is_text.lattice.rows) (map_count t.is_text.lattice) (length t.world.history),
-        record {
-          world = t.world;
-          solo = t.solo;
-          lattice = t.is_text.lattice;
-          after = t.is_text.after;
-          is = refl;
-        },
-      )
+  -- **its dump**
+  pub dump_is : (p : Performance) (L : Lattice) (text : List ℕ)
+      → Performs first_edition operations script p → IsAfter p.book.edition p.book.entries L
+      → text ≡ dump_text L → IsDump first_edition operations script text
+  dump_is p L text P after is = (final_of p L P after, is)
 
-  -- what a summary is of one world
-  summary_of : (w : World) (text : List ℕ) → Type 0
-  summary_of w text = (L : Lattice) × IsAfter first_edition w.history L
-      × (text ≡ summary_text (length L.rows) (map_count L) (length w.history))
-
-  same_summary : (w : World) (text other : List ℕ) → summary_of w text → summary_of w other
-      → text ≡ other
-  unfolding summary_of
-  same_summary w text other (L, after, is) (M, there, also) =
-      is ∙ ap (λ (N : Lattice). summary_text (length N.rows) (map_count N) (length w.history))
-      (history_one first_edition w.history L M first_is_edition after there) ∙ sym also
+  -- a playable script has an end
+  pub some_final : KeepsValues operations → IsPlayable script
+      → Final first_edition operations script
+  some_final keeps playable =
+      let (text, t) = some_transcript first_edition operations script first_is_edition keeps playable in
+      record { world = t.world; solo = t.solo; lattice = t.is_text.lattice; after = t.is_text.after }
 
   -- and only one
+  one_world : KeepsValues operations → IsPlayable script → (f g : Final first_edition operations script)
+      → f.world ≡ g.world
+  one_world keeps playable f g =
+      one_solo first_edition operations script f.world g.world first_is_edition keeps playable f.solo g.solo
+
+  one_lattice : (f g : Final first_edition operations script) → f.world ≡ g.world
+      → f.lattice ≡ g.lattice
+  one_lattice f g same =
+      history_one first_edition f.world.history f.lattice g.lattice first_is_edition f.after
+      (subst (λ (w : World). IsAfter first_edition w.history g.lattice) (sym same) g.after)
+
   pub one_summary : KeepsValues operations → IsPlayable script → (text other : List ℕ)
       → IsSummary first_edition operations script text
       → IsSummary first_edition operations script other → text ≡ other
-  unfolding summary_of
-  one_summary keeps playable text other a b =
-      let same = one_solo first_edition operations script b.world a.world first_is_edition keeps playable b.solo a.solo in
-      same_summary a.world text other (a.lattice, a.after, a.is)
-      (subst (λ w. summary_of w other) same (b.lattice, b.after, b.is))
+  one_summary keeps playable text other (f, is) (g, also) =
+      let world = one_world keeps playable f g in
+      is ∙ ap₂ (λ (L : Lattice) (w : World). summary_text (length L.rows) (map_count L) (length w.history))
+      (one_lattice f g world) world
+      ∙ sym also
+
+  pub one_dump : KeepsValues operations → IsPlayable script → (text other : List ℕ)
+      → IsDump first_edition operations script text
+      → IsDump first_edition operations script other → text ≡ other
+  one_dump keeps playable text other (f, is) (g, also) =
+      is ∙ ap dump_text (one_lattice f g (one_world keeps playable f g)) ∙ sym also
 
 -- operations of the same tables
 pub same_operations : (words : List (List ℕ)) (source source' sink sink' : Stream) (result : ℕ)

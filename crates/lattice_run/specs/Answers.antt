@@ -1,5 +1,8 @@
 -- What the program answers to what it is asked for and to its input.
---     IsSummary edition operations script text       the summary alone of a script that is played
+--     Final edition operations script                the end of a script that is played
+--     IsSummary edition operations script text       its summary alone
+--     IsDump edition operations script text          the dump of its lattice
+--     IsPlayed operations output script text         what is written of a script that is played
 --     IsOutput operations task input text            what is written for a task that is done
 --     Answers operations asked input status text     the exit status, and what is written
 --     rest_of most input          what is left of an input that is read up to a limit
@@ -15,29 +18,46 @@ use Rattle.lat_language.specs.declared.scripts.Script.{Script}
 use Rattle.lat_language.specs.Grammar.{Spells, FirstBad}
 use Rattle.lat_language.specs.Texts.{usage_text, bad_line_text, too_long_text, summary_text}
 use Rattle.lat_gen.specs.Generated.{generated}
+use Rattle.lat_audit.specs.Dumps.{dump_text}
 use Rattle.lat_session.specs.Outcomes.{Operations}
 use Rattle.lat_playing.specs.Worlds.{World, IsSolo}
 use Rattle.lat_playing.specs.Transcripts.{IsTranscript}
 use Rattle.lattice_run.specs.declared.run.TheConstants.{MAX_INPUT}
 use Rattle.lattice_run.specs.declared.status.TheConstants.{DONE, NO_COMMAND, BAD_SCRIPT}
 use Rattle.lattice_run.specs.declared.tasks.Task.{Task}
-use Rattle.lattice_run.specs.declared.tasks.Task.TheVariants.{Solo, Gen}
+use Rattle.lattice_run.specs.declared.tasks.Output.{Output}
+use Rattle.lattice_run.specs.declared.tasks.Output.TheVariants.{Transcript, Dump}
+use Rattle.lattice_run.specs.declared.tasks.Task.TheVariants.{Play, Gen}
 use Rattle.lattice_run.specs.Tasks.{PlaysInput, limit}
 
--- The script is played by its schedule; the counts are those of the lattice after all changes, and
--- of these.
-pub record IsSummary (edition : lattices.Edition) (operations : Operations) (script : Script)
-    (text : List ℕ) : Type 0 where
+-- A script that is played by its schedule: its world, and the lattice after all changes.
+pub record Final (edition : lattices.Edition) (operations : Operations) (script : Script)
+    : Type 0 where
   pub world : World
   pub solo : IsSolo edition operations script world
   pub lattice : Lattice
   pub after : IsAfter edition world.history lattice
-  pub is : text ≡ summary_text (length lattice.rows) (map_count lattice) (length world.history)
 
--- The transcript of the script that the input spells, or the summary alone of a generated script.
+-- The counts are those of this lattice, and of the changes.
+abbrev pub IsSummary : lattices.Edition → Operations → Script → List ℕ → Type 0
+IsSummary edition operations script text = (final : Final edition operations script)
+    × (text ≡ summary_text (length final.lattice.rows) (map_count final.lattice)
+    (length final.world.history))
+
+-- The dump of this lattice.
+abbrev pub IsDump : lattices.Edition → Operations → Script → List ℕ → Type 0
+IsDump edition operations script text = (final : Final edition operations script)
+    × (text ≡ dump_text final.lattice)
+
+-- What is written of a script that is played.
+abbrev pub IsPlayed : Operations → Output → Script → List ℕ → Type 0
+IsPlayed operations Transcript script text = IsTranscript first_edition operations script text
+IsPlayed operations Dump script text = IsDump first_edition operations script text
+
+-- Of the script that the input spells, or the summary alone of a generated script.
 abbrev pub IsOutput : Operations → Task → List ℕ → List ℕ → Type 0
-IsOutput operations Solo input text = (script : Script) × Spells input script
-    × IsTranscript first_edition operations script text
+IsOutput operations (Play output) input text = (script : Script) × Spells input script
+    × IsPlayed operations output script text
 IsOutput operations (Gen seed fields embeds) input text =
     IsSummary first_edition operations (generated seed fields embeds) text
 
@@ -54,7 +74,7 @@ pub data Answers (operations : Operations) (asked : Option Task) (input : List �
       → IfSome (limit asked) (λ most. length input ≤ most) → IsOutput operations task input text
       → Answers operations asked input DONE text
 
--- Where there is no limit nothing is read, and else the limit and one byte.
+-- Where there is no limit nothing is read, and else at most the limit and one byte more.
 abbrev pub rest_of : Option ℕ → List ℕ → List ℕ
 rest_of None input = input
 rest_of (Some most) input = drop (most + 1) input
@@ -64,7 +84,7 @@ abbrev pub IsInput : Option ℕ → List ℕ → Option (List ℕ) → Option (L
 IsInput most input old new =
     IfSome old (λ left. (left ≡ input) × (new ≡ Some (rest_of most input)))
 
--- Nothing is taken where nothing is read, and else at most the limit and one byte.
+-- Nothing is taken where nothing is read, and else at most the limit and one byte more.
 abbrev pub TakesInput : Option ℕ → Option (List ℕ) → Option (List ℕ) → Type 0
 TakesInput None old new = new ≡ old
 TakesInput (Some most) old new = TakesAtMost old new (most + 1)

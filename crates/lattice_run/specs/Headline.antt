@@ -46,13 +46,14 @@ pub record Headline (operations : Operations) (words : List (List ℕ))
   -- There is no other status.
   pub statuses :
       Contains (DONE ∷ NO_COMMAND ∷ BAD_SCRIPT ∷ READ_FAILED ∷ WRITE_FAILED ∷ NO_MEMORY ∷ []) status
-  -- A read that failed is always answered by 4, and a write that failed by 5.
+  -- A read that failed is answered by 4, and a write that failed by 5, unless its count of faults
+  -- is at the last value.
   pub reads : status ≢ READ_FAILED → source'.faults ≡ source.faults
   pub writes : status ≢ WRITE_FAILED → sink'.faults ≡ sink.faults
   -- Whatever the status, nothing is taken where what is asked for reads nothing, and else at most
   -- the limit and one byte.
   pub taken : TakesInput (limit asked) source.bytes source'.bytes
-  -- Where no write failed, words that name no task are answered by 2.
+  -- Where the count of failed writes didn't rise, words that name no task are answered by 2.
   pub other_words : asked ≡ None → ¬ Rose sink.faults sink'.faults → status ≡ NO_COMMAND
   -- Where no count of faults rose, and the source tells its bytes or none are read, the status is
   -- that of the answer that is due, but for memory.

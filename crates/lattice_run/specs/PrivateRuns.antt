@@ -15,7 +15,8 @@ use Rattle.lat_history.specs.Books.{History}
 use Rattle.lat_session.specs.Outcomes.{Operations}
 use Rattle.lattice_run.specs.declared.status.TheConstants.{READ_FAILED, WRITE_FAILED, NO_MEMORY}
 use Rattle.lattice_run.specs.declared.tasks.Task.{Task}
-use Rattle.lattice_run.specs.declared.tasks.Task.TheVariants.{Solo}
+use Rattle.lattice_run.specs.declared.tasks.Output.{Output}
+use Rattle.lattice_run.specs.declared.tasks.Task.TheVariants.{Play}
 use Rattle.lattice_run.specs.Tasks.{limit}
 use Rattle.lattice_run.specs.Answers.{Answers, IsInput}
 
@@ -35,14 +36,15 @@ pub data Delivers (status : ℕ) (text : List ℕ) (sink sink' : Stream) (result
 abbrev pub NeedsMemory : List ℕ → Type 0
 NeedsMemory input = LeadsToScript input ⊎ ((script : Script) × Spells input script)
 
--- The answer of `solo` was delivered, or there was no memory for an input that needs it.
-pub data AnswersInput (operations : Operations) (input : List ℕ) (sink sink' : Stream)
-    (result : ℕ) : Type 0 where
+-- The answer for a script was delivered, or there was no memory for an input that needs it.
+pub data AnswersInput (operations : Operations) (wanted : Output) (input : List ℕ)
+    (sink sink' : Stream) (result : ℕ) : Type 0 where
   answered : (status : ℕ) (text : List ℕ)
-      → Answers operations (Some Solo) input status text → Delivers status text sink sink' result
-      → AnswersInput operations input sink sink' result
+      → Answers operations (Some (Play wanted)) input status text
+      → Delivers status text sink sink' result
+      → AnswersInput operations wanted input sink sink' result
   unanswered : NeedsMemory input → result ≡ NO_MEMORY → sink' ≡ sink
-      → AnswersInput operations input sink sink' result
+      → AnswersInput operations wanted input sink sink' result
 
 -- An answer was delivered, a read failed, or there was no memory, for a task and, where it reads,
 -- some bytes.

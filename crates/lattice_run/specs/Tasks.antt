@@ -1,4 +1,5 @@
 -- What the words of a run ask for.
+--     word_of output       the word that asks for an output of a script
 --     words_of task        the words that name a task
 --     IsProper task        the numbers of a task are within their limits
 --     IsTask words task    the words name the task
@@ -9,17 +10,23 @@ use Rattle.std.specs.Prelude.{◌≡◌, ℕ, ◌^◌, ◌<◌, List, [], ◌∷
 use Rattle.lat_gen.specs.Theorems.{AreSizes}
 use Rattle.lattice_run.specs.declared.run.TheConstants.{MAX_INPUT}
 use Rattle.lattice_run.specs.declared.tasks.Task.{Task}
-use Rattle.lattice_run.specs.declared.tasks.Task.TheVariants.{Solo, Gen}
+use Rattle.lattice_run.specs.declared.tasks.Output.{Output}
+use Rattle.lattice_run.specs.declared.tasks.Output.TheVariants.{Transcript, Dump}
+use Rattle.lattice_run.specs.declared.tasks.Task.TheVariants.{Play, Gen}
+
+abbrev pub word_of : Output → List ℕ
+word_of Transcript = codes "solo"
+word_of Dump = codes "dump"
 
 -- Numbers are written in decimal, without zeros before them.
 abbrev pub words_of : Task → List (List ℕ)
-words_of Solo = codes "solo" ∷ []
+words_of (Play output) = word_of output ∷ []
 words_of (Gen seed fields embeds) =
     codes "gen" ∷ decimal seed ∷ decimal fields ∷ decimal embeds ∷ []
 
 -- A seed has 64 bits; there are as many fields and embeddings as a generated script may have.
 abbrev pub IsProper : Task → Type 0
-IsProper Solo = ⊤
+IsProper (Play output) = ⊤
 IsProper (Gen seed fields embeds) = (seed < 2 ^ 64) × AreSizes fields embeds
 
 abbrev pub IsTask : List (List ℕ) → Task → Type 0
@@ -31,10 +38,10 @@ Asks words None = (task : Task) → ¬ IsTask words task
 Asks words (Some task) = IsTask words task
 
 abbrev pub PlaysInput : Option Task → Type 0
-PlaysInput (Some Solo) = ⊤
+PlaysInput (Some (Play output)) = ⊤
 PlaysInput _ = ⊥
 
 -- For other words, and for a script that is generated, nothing is read.
 abbrev pub limit : Option Task → Option ℕ
-limit (Some Solo) = Some MAX_INPUT
+limit (Some (Play output)) = Some MAX_INPUT
 limit _ = None

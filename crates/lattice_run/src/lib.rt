@@ -13,4 +13,4 @@ mod tests;
 pub use entry::run_with;
 pub use laws::{limits, one_answer, one_task};
 pub use run::{MAX_INPUT, run_plain};
-pub use tasks::{Task, task_of};
+pub use tasks::{Output, Task, task_of};

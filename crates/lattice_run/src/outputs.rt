@@ -7,9 +7,11 @@ ghost use Rattle.lat_gen.specs.Theorems.{AreSizes};
 ghost use Rattle.lat_session.specs.Outcomes.{operations_of};
 ghost use Rattle.lat_playing.specs.Plays.{IsPlayable};
 ghost use Rattle.lat_playing.specs.Transcripts.{IsTranscript};
-ghost use Rattle.lattice_run.specs.Answers.{IsSummary};
+ghost use Rattle.lattice_run.specs.Answers.{IsSummary, IsDump, IsPlayed};
 ghost use Rattle.lattice_run.specs.PrivateRuns.{AddsSummary};
 
+use crate::tasks::Output;
+use lat_audit::write_dump;
 use lat_core::{Edition, NoMemory};
 use lat_gen::script_of;
 use lat_history::Book;
@@ -28,7 +30,7 @@ fn add_book_summary(out: &mut Vec<u8>, book: &Book) -> Result<(), NoMemory>
 }
 
 // The transcript of a script that is played by its schedule.
-pub(crate) fn transcript<F: Operation, G: Operation, H: Operation>(
+fn transcript<F: Operation, G: Operation, H: Operation>(
     alloc: Global,
     script: &Script,
     ops: &Ops<F, G, H>,
@@ -40,6 +42,38 @@ pub(crate) fn transcript<F: Operation, G: Operation, H: Operation>(
     let Performance { book, mut lines } = play_solo(alloc, Edition::One, script, ops)?;
     add_book_summary(&mut lines, &book)?;
     Ok(lines)
+}
+
+// The dump of the lattice after all changes of a script that is played by its schedule.
+fn dump<F: Operation, G: Operation, H: Operation>(
+    alloc: Global,
+    script: &Script,
+    ops: &Ops<F, G, H>,
+) -> Result<Vec<u8>, NoMemory>
+    requires { IsPlayable script.now }
+    ensures { IfOk result (λ text. IsDump first_edition
+        (operations_of ops.now.first ops.now.second ops.now.third) script.now text.items) }
+{
+    let Performance { book, lines: _ } = play_solo(alloc, Edition::One, script, ops)?;
+    let text = write_dump(alloc, book.lattice())?;
+    Ok(text)
+}
+
+// What is written of a script that is played by its schedule.
+pub(crate) fn played<F: Operation, G: Operation, H: Operation>(
+    alloc: Global,
+    output: Output,
+    script: &Script,
+    ops: &Ops<F, G, H>,
+) -> Result<Vec<u8>, NoMemory>
+    requires { IsPlayable script.now }
+    ensures { IfOk result (λ text. IsPlayed
+        (operations_of ops.now.first ops.now.second ops.now.third) output script.now text.items) }
+{
+    match output {
+        Output::Transcript => transcript(alloc, script, ops),
+        Output::Dump => dump(alloc, script, ops),
+    }
 }
 
 // The summary of the script that is generated from a seed, which is played by its schedule.

@@ -4,15 +4,15 @@ ghost use Rattle.std.specs.Prelude.{◌≡◌, ◌≤◌, map, length, Some, IfS
 ghost use Rattle.lat_gen.specs.Theorems.{AreSizes};
 ghost use Rattle.lat_io.specs.Streams.{stream, Stream};
 ghost use Rattle.lat_session.specs.Outcomes.{operations_of};
-ghost use Rattle.lattice_run.specs.declared.tasks.Task.TheVariants.{Solo, Gen};
+ghost use Rattle.lattice_run.specs.declared.tasks.Task.TheVariants.{Play, Gen};
 ghost use Rattle.lattice_run.specs.Tasks.{IsProper, limit};
 ghost use Rattle.lattice_run.specs.Answers.{TakesInput};
 ghost use Rattle.lattice_run.specs.Headline.{Headline};
 ghost use Rattle.lattice_run.specs.PrivateRuns.{Delivers, AnswersInput, Ran};
 
-use crate::outputs::{summary, transcript};
+use crate::outputs::{played, summary};
 use crate::status::{BAD_SCRIPT, DONE, NO_COMMAND, NO_MEMORY, READ_FAILED, WRITE_FAILED};
-use crate::tasks::{Task, task_of};
+use crate::tasks::{Output, Task, task_of};
 use lat_core::NoMemory;
 use lat_io::{Failed, ReadFault, Sink, Source, read_all, write_all_of};
 use lat_language::{MAX_SCRIPT, ScriptFault, bad_line, parse, too_long_line, usage_line};
@@ -34,20 +34,21 @@ fn deliver<K: Sink>(sink: &mut K, status: u8, text: &[u8]) -> u8
     }
 }
 
-// Writes the answer of `solo` to an input that was read whole, and gives the status.
+// Writes the answer to an input that was read whole, and gives the status.
 fn answer<K: Sink, F: Operation, G: Operation, H: Operation>(
     alloc: Global,
+    output: Output,
     input: &[u8],
     sink: &mut K,
     ops: &Ops<F, G, H>,
 ) -> u8
     requires { length input.now ≤ MAX_INPUT }
-    ensures { AnswersInput (operations_of ops.now.first ops.now.second ops.now.third) input.now
+    ensures { AnswersInput (operations_of ops.now.first ops.now.second ops.now.third) output input.now
         (stream (K.held sink.old) (K.faults sink.old))
         (stream (K.held sink.new) (K.faults sink.new)) result }
 {
     match parse(alloc, input) {
-        Ok(script) => match transcript(alloc, &script, ops) {
+        Ok(script) => match played(alloc, output, &script, ops) {
             Ok(text) => deliver(sink, DONE, &text),
             Err(NoMemory) => NO_MEMORY,
         },
@@ -58,22 +59,23 @@ fn answer<K: Sink, F: Operation, G: Operation, H: Operation>(
     }
 }
 
-// Reads a script, and writes the answer of `solo`.
-fn run_solo<S: Source, K: Sink, F: Operation, G: Operation, H: Operation>(
+// Reads a script, and writes the answer.
+fn run_input<S: Source, K: Sink, F: Operation, G: Operation, H: Operation>(
     alloc: Global,
+    output: Output,
     source: &mut S,
     sink: &mut K,
     ops: &Ops<F, G, H>,
 ) -> u8
-    ensures ran { Ran (operations_of ops.now.first ops.now.second ops.now.third) (Some Solo)
+    ensures ran { Ran (operations_of ops.now.first ops.now.second ops.now.third) (Some (Play output))
         (stream (S.left source.old) (S.faults source.old))
         (stream (S.left source.new) (S.faults source.new))
         (stream (K.held sink.old) (K.faults sink.old))
         (stream (K.held sink.new) (K.faults sink.new)) result }
-    ensures taken { TakesInput (limit (Some Solo)) (S.left source.old) (S.left source.new) }
+    ensures taken { TakesInput (limit (Some (Play output))) (S.left source.old) (S.left source.new) }
 {
     match read_all(alloc, source, MAX_INPUT) {
-        Ok(input) => answer(alloc, &input, sink, ops),
+        Ok(input) => answer(alloc, output, &input, sink, ops),
         Err(ReadFault::TooLong(_)) => deliver(sink, BAD_SCRIPT, too_long_line()),
         Err(ReadFault::Failed) => READ_FAILED,
         Err(ReadFault::NoMemory) => NO_MEMORY,
@@ -119,7 +121,7 @@ fn run<S: Source, K: Sink, F: Operation, G: Operation, H: Operation>(
 {
     match asked {
         None => deliver(sink, NO_COMMAND, usage_line()),
-        Some(Task::Solo) => run_solo(alloc, source, sink, ops),
+        Some(Task::Play { output }) => run_input(alloc, output, source, sink, ops),
         Some(
             Task::Gen {
                 seed,
@@ -131,21 +133,21 @@ fn run<S: Source, K: Sink, F: Operation, G: Operation, H: Operation>(
 }
 
 /// Does the task that the words name, with the operations `ops`: it reads what the task reads from
-/// `source`, and appends what is written for it to `sink`. [`Task::Solo`] reads a script of at most
+/// `source`, and appends what is written for it to `sink`. [`Task::Play`] reads a script of at most
 /// `MAX_INPUT` bytes to its end, and [`Task::Gen`] reads nothing.
 ///
 /// `words` are the words after the program's name. The answer is one of these statuses:
 ///
-/// - [`DONE`]: `words` are `solo` alone, and the input spells a script, whose transcript was
-///   appended; or they are `gen` with a seed and numbers of fields and embeddings, and the summary
+/// - [`DONE`]: `words` are `solo` or `dump` alone, and the input spells a script, whose transcript,
+///   or the dump of whose lattice, was appended; or they are `gen` with a seed and numbers of fields and embeddings, and the summary
 ///   of the generated script was appended.
 /// - [`NO_COMMAND`]: `words` name no task; the usage line was appended, and nothing read.
 /// - [`BAD_SCRIPT`]: the input has more than `MAX_INPUT` bytes or spells no script; its fault line
 ///   was appended.
 /// - [`READ_FAILED`]: a read failed; nothing was appended.
 /// - [`WRITE_FAILED`]: a write failed; the beginning of what was to be appended was.
-/// - [`NO_MEMORY`]: there was no memory for a task; where it reads, a byte was read; nothing was
-///   appended.
+/// - [`NO_MEMORY`]: want of memory for a task was answered; where it reads, a byte was read; nothing
+///   was appended.
 pub fn run_plain<S: Source, K: Sink, F: Operation, G: Operation, H: Operation>(
     alloc: Global,
     words: &[String],

@@ -6,11 +6,21 @@ ghost use Rattle.lattice_run.specs.Tasks.{Asks};
 use itoa::Buffer;
 use lat_gen::{MAX_GENERATED_EMBEDS, MAX_GENERATED_FIELDS};
 
+/// What is written of a script that is played.
+#[derive(Clone, Copy, PartialEq, Eq, Debug)]
+pub enum Output {
+    /// Its transcript.
+    Transcript,
+    /// The dump of the lattice after all changes.
+    Dump,
+}
+
 /// What the program can do.
 #[derive(Clone, Copy, PartialEq, Eq, Debug)]
 pub enum Task {
-    /// Plays the script that the source gives by its schedule, and writes its transcript.
-    Solo,
+    /// Plays the script that the source gives by its schedule, and writes its transcript or the
+    /// dump of its lattice.
+    Play { output: Output },
     /// Plays the script that is generated from a seed, with this many fields and embeddings, and
     /// writes its summary alone. Nothing is read.
     Gen { seed: u64, fields: u32, embeds: u32 },
@@ -52,7 +62,13 @@ fn asked_by_word(word: &str) -> Option<Task>
     ensures { Asks (word.now ∷ []) result }
 {
     if word == "solo" {
-        Some(Task::Solo)
+        Some(Task::Play {
+            output: Output::Transcript,
+        })
+    } else if word == "dump" {
+        Some(Task::Play {
+            output: Output::Dump,
+        })
     } else {
         None
     }
@@ -78,7 +94,8 @@ fn asked_by_words(word: &str, seed: &str, fields: &str, embeds: &str) -> Option<
     })
 }
 
-/// The task that the words name, or None where they name none: `solo` alone is [`Task::Solo`], and
+/// The task that the words name, or None where they name none: `solo` alone and `dump` alone are
+/// [`Task::Play`], with the output [`Output::Transcript`] and [`Output::Dump`], and
 /// `gen` with a seed, a number of fields and a number of embeddings is [`Task::Gen`]. Numbers are
 /// in decimal, without zeros before them: a seed of 64 bits, fields from 1 to
 /// `MAX_GENERATED_FIELDS`, embeddings up to `MAX_GENERATED_EMBEDS`.

@@ -14,6 +14,14 @@ const QUADRATIC: &[u8] = b"lattice 1\nfield K 2 1,1,1\n";
 
 const QUADRATIC_TEXT: &[u8] = b"ok field 11 @0\nsummary fields 12 maps 13 changes 1\n";
 
+// The dump of the lattice after this declaration.
+const QUADRATIC_DUMP: &[u8] = b"lattice-dump 1\nfields 12\nfield 0 F2 2 0,1\nfield 1 F3 3 0,1\n\
+    field 2 F5 5 0,1\nfield 3 F7 7 0,1\nfield 4 F11 11 0,1\nfield 5 F13 13 0,1\n\
+    field 6 F17 17 0,1\nfield 7 F19 19 0,1\nfield 8 F23 23 0,1\nfield 9 F29 29 0,1\n\
+    field 10 F31 31 0,1\nfield 11 K 2 1,1,1\nmaps 13\nmap 0 0 0\nmap 0 11 0,0\n\
+    map 1 1 0\nmap 2 2 0\nmap 3 3 0\nmap 4 4 0\nmap 5 5 0\nmap 6 6 0\nmap 7 7 0\n\
+    map 8 8 0\nmap 9 9 0\nmap 10 10 0\nmap 11 11 0,1\nend\n";
+
 const USAGE: &[u8] = b"usage: lattice_tool solo|share|dump|audit|gen SEED FIELDS EMBEDS\n";
 
 // The words of a run.
@@ -144,6 +152,20 @@ fn expect_write(
     let source = source(alloc, QUADRATIC, 100, &[])?;
     let sink = sink(alloc, room, piece, fails)?;
     expect(rt, &solo, source, sink, alloc, status, held);
+    Ok(())
+}
+
+#[test]
+fn dumps_lattices(rt: HostRuntime) -> Result<(), Fail> {
+    let alloc = rt.alloc();
+    let dump = words(alloc, &["dump"])?;
+    let quadratic = source(alloc, QUADRATIC, 100, &[])?;
+    let room = sink(alloc, 1000, 100, &[])?;
+    expect(&rt, &dump, quadratic, room, alloc, DONE, QUADRATIC_DUMP);
+    let bad = source(alloc, b"lattice 1\nnone\n", 100, &[])?;
+    let room = sink(alloc, 1000, 100, &[])?;
+    let line = b"bad script line 2 kind 3\n";
+    expect(&rt, &dump, bad, room, alloc, BAD_SCRIPT, line);
     Ok(())
 }
 

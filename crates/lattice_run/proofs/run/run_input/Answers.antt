@@ -1,12 +1,12 @@
--- Each way out of the run of `solo`.
+-- Each way out of the run of an input.
 use Rattle.std.proofs.Common.{subst, sym, arith}
 use Rattle.lat_io.specs.Source.{ReadWhole}
 use Rattle.lattice_run.proofs.Running.{ran_too_long, ran_input, whole_takes, before_takes}
-use Rattle.lattice_run.proofs.run.run_solo.Goals as goal
+use Rattle.lattice_run.proofs.run.run_input.Goals as goal
 
 pub returns-in-Ok-clause-ran : goal.returns-in-Ok-clause-ran
 returns-in-Ok-clause-ran g c =
-    ran_input _ _ _ _ c.answer.result c.deref.result.now (c.in-Ok.ensures.unfailed (λ e. cc))
+    ran_input c.args.output _ _ _ _ c.answer.result c.deref.result.now (c.in-Ok.ensures.unfailed (λ e. cc))
     (omega (arith, c.in-Ok.ensures.within, c.deref.ensures.len))
     (subst (λ xs. ReadWhole (g.S.Source.left c.args.source.now) (g.S.Source.left c.read_all.new.source) xs) (sym c.deref.ensures.value) c.in-Ok.ensures.whole)
     c.answer.ensures
@@ -18,7 +18,7 @@ returns-in-Ok-clause-taken g c =
 pub returns-in-Err-TooLong-clause-ran : goal.returns-in-Err-TooLong-clause-ran
 returns-in-Err-TooLong-clause-ran g c =
     let taken = (rw (c.in-Err-TooLong.field-0-is) at c.in-Err-TooLong.ensures.fault) in
-    ran_too_long _ _ _ _ c.deliver.result c.too_long_line.result.now
+    ran_too_long c.args.output _ _ _ _ c.deliver.result c.too_long_line.result.now
     (let is_long = c.in-Err-TooLong.field-0-is in c.in-Err-TooLong.ensures.unfailed (λ e. cc)) taken.1 c.too_long_line.ensures c.deliver.ensures
 
 pub returns-in-Err-TooLong-clause-taken : goal.returns-in-Err-TooLong-clause-taken
