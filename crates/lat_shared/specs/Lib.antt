@@ -1,0 +1,4 @@
+pub mod Sharing
+pub mod PrivateSettings
+pub mod PrivatePasses
+pub mod PrivateTurns
