@@ -5,9 +5,9 @@ mod books;
 mod session_passes;
 mod shared;
 mod shared_ports;
-mod turns;
 #[cfg(test)]
 mod tests;
+mod turns;
 
 pub use session_passes::SessionPass;
 pub use shared::Shared;

@@ -64,9 +64,13 @@ impl SessionPass {
         ensures told { (known result).seen ≡ self.entry.told }
         ensures joined { IsJoined (known result) }
     {
-        let Some(pass) = self.pass else {
-            unreachable!()
-        };
+        let SessionPass {
+            pass,
+            number: _,
+            front: _,
+            view: _,
+        } = self;
+        let Some(pass) = pass else { unreachable!() };
         pass
     }
 

@@ -115,6 +115,7 @@ impl Shared {
         requires of_shared { IsPassOf self.now pass.old }
         requires proper { IsProperRequest request.now }
         ensures of_shared { IsPassOf self.now pass.new }
+        ensures number { pass.new.number ≡ pass.old.number }
         ensures placed { IfOk result (λ done. IsPlaced (knowledge_of pass.old)
             (knowledge_of pass.new) request.now done.reply done.place) }
         ensures unplaced { IfErr result (λ _.
