@@ -3,11 +3,12 @@
 --     sharing_in k            which shared history it is of
 --     shared_pass k n front   what contracts see of a pass
 --     passes_from n front passes     the same of passes that are numbered from n on
---     Keeps k n front view    the gate's pass has the session's number alone, and the view is the
+--     Keeps k n front L       the gate's pass has the session's number alone, and L is the
 --                             lattice after as many entries as the front says
 --     IsKept pass n front view     the gate's pass is there, and so it is
 --     KeepFrom n front view passes     so are passes that are numbered from n on
 --     Has k pass              a gate's pass has what the pass of a session has
+--     Covers k' k             a gate's pass has what another one has
 --     IsJoined k              and of other numbers it has none
 use Rattle.std.specs.Prelude.{◌≡◌, ℕ, suc, ◌≤◌, List, [], ◌∷◌, length, take, Option, Some, None, IsSome, Contains}
 use Rattle.alg_model.specs.Lattices.{Lattice}
@@ -61,14 +62,14 @@ abbrev pub shared_pass : Known Entry → ℕ → ℕ → SharedPass
 shared_pass k n front =
     record { sharing = sharing_in k; number = n; seen = take front k.seen; told = k.seen }
 
-pub record Keeps (k : Known Entry) (n front : ℕ) (view : Lattice) : Type 0 where
+pub record Keeps (k : Known Entry) (n front : ℕ) (L : Lattice) : Type 0 where
   -- its own entries are those that it was told
   pub own : k.own ≡ (n, entries_of n k.seen) ∷ []
   pub legal : IsLegalUnder k.setting k.seen
   pub session : IsSession k.passes n
   pub begins : BeginsWith k.seen k.opening
   pub within : front ≤ length k.seen
-  pub view : IsAfter (edition_in k.setting) (take front k.seen) view
+  pub view : IsAfter (edition_in k.setting) (take front k.seen) L
 
 module _ {M : Type 0} {g : Ghosts M Entry} where
   pub record IsKept (pass : Option (Pass M Entry g)) (n front : ℕ) (view : Lattice)
@@ -91,6 +92,11 @@ module _ {M : Type 0} {g : Ghosts M Entry} where
 pub record Has (k : Known Entry) (pass : SharedPass) : Type 0 where
   pub own : Contains k.own (pass.number, entries_of pass.number pass.told)
   pub told : BeginsWith k.seen pass.told
+
+-- a gate's pass has what another one has
+pub record Covers (k' k : Known Entry) : Type 0 where
+  pub own : (o : ℕ × List Entry) → Contains k.own o → Contains k'.own o
+  pub seen : BeginsWith k'.seen k.seen
 
 -- all numbers of a gate's pass are those of sessions, and it has seen the entries at the opening
 pub record IsJoined (k : Known Entry) : Type 0 where

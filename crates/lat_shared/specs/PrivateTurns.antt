@@ -35,5 +35,5 @@ pub record IsTurnLost (k : Known Entry) (n : ℕ) (k' : Known Entry) (fault : Ch
     : Type 0 where
   pub before : History
   pub found : Found k n before
-  pub fault : IsBookFault before fault
+  pub refused : IsBookFault before fault
   pub pass : k' ≡ informed k before.entries

@@ -52,7 +52,7 @@ impl SharedBook {
 
     // The book.
     pub(crate) fn into_book(self) -> Book
-        ensures same { result ≡ self.entry }
+        ensures same { result ≡ self }
     {
         self.book
     }

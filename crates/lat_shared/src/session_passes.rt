@@ -58,10 +58,10 @@ impl SessionPass {
 
     // The gate's pass.
     pub(crate) fn into_pass(self) -> Pass<SharedBook>
-        ensures sharing { sharing_in (known result) ≡ self.entry.sharing }
+        ensures sharing { sharing_in (known result) ≡ self.sharing }
         ensures own { (known result).own ≡
-            (self.entry.number, entries_of self.entry.number self.entry.told) ∷ [] }
-        ensures told { (known result).seen ≡ self.entry.told }
+            (self.number, entries_of self.number self.told) ∷ [] }
+        ensures told { (known result).seen ≡ self.told }
         ensures joined { IsJoined (known result) }
     {
         let SessionPass {

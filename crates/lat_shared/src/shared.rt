@@ -57,7 +57,7 @@ fn with_views(
 ) -> Result<Vec<SessionPass>, NoMemory>
     requires few { vec_len dealt ≤ MAX_PASSES }
     requires keep { KeepFrom 1 front view.now dealt.items }
-    ensures passes { IfOk result (λ passes. passes.items ≡ passes_from 1 front dealt.entry.items) }
+    ensures passes { IfOk result (λ passes. passes.items ≡ passes_from 1 front dealt.items) }
 {
     let mut passes = Vec::new(alloc);
     for pass in dealt {
@@ -79,10 +79,10 @@ impl Shared {
     ) -> Result<(Shared, Vec<SessionPass>), NoMemory>
         requires sessions { (1 ≤ sessions) × (sessions ≤ MAX_PASSES) }
         requires unused { (n : ℕ) → IsSession sessions n → entries_of n book.entries ≡ [] }
-        ensures shared { IfOk result (λ made. made.0 ≡ sharing_of made.0.gate book.entry sessions) }
+        ensures shared { IfOk result (λ made. made.0 ≡ sharing_of made.0.gate book sessions) }
         ensures count { IfOk result (λ made. vec_len made.1 ≡ sessions) }
         ensures passes { IfOk result (λ made. (i : ℕ) → i < sessions →
-            slice_get made.1.items i ≡ Some (first_pass made.0 (i + 1) book.entry.entries)) }
+            slice_get made.1.items i ≡ Some (first_pass made.0 (i + 1) book.entries)) }
     {
         let edition = book.edition();
         let room = book.room();
@@ -143,12 +143,12 @@ impl Shared {
         requires of_shared { All (IsPassOf self) passes.items }
         requires every { (n : ℕ) → IsSession self.sessions n →
             Contains (map (λ pass. pass.number) passes.items) n }
-        ensures edition { result.edition ≡ self.entry.edition }
-        ensures room { result.room ≡ self.entry.room }
+        ensures edition { result.edition ≡ self.edition }
+        ensures room { result.room ≡ self.room }
         ensures whole { IsHistory result }
-        ensures sessions { All (λ pass. EndsAs pass result) passes.entry.items }
-        ensures others { (n : ℕ) → ¬ IsSession self.entry.sessions n → entries_of n result.entries
-            ≡ entries_of n (take self.entry.opened result.entries) }
+        ensures sessions { All (λ pass. EndsAs pass result) passes.items }
+        ensures others { (n : ℕ) → ¬ IsSession self.sessions n → entries_of n result.entries
+            ≡ entries_of n (take self.opened result.entries) }
     {
         let kept = self.join_all(passes);
         let book = self.gate.close(kept);
@@ -160,7 +160,7 @@ impl Shared {
         requires of_shared { All (IsPassOf self.now) passes.items }
         requires some { 0 < vec_len passes }
         ensures sharing { sharing_in (known result) ≡ self.now }
-        ensures has { All (Has (known result)) passes.entry.items }
+        ensures has { All (Has (known result)) passes.items }
         ensures joined { IsJoined (known result) }
     {
         let mut passes = passes;

@@ -87,7 +87,7 @@ fn sync_each<R: Wait>(
 ) -> (SessionPass, Result<(), ChangeFault>)
     requires { IsPassOf shared.now pass }
     ensures of_shared { IsPassOf shared.now result.0 }
-    ensures number { result.0.number ≡ pass.entry.number }
+    ensures number { result.0.number ≡ pass.number }
 {
     let mut pass = pass;
     for _ in 0..count {
