@@ -1,13 +1,14 @@
 -- The gate's passes of sessions, as they are dealt and as they are joined.
-use Rattle.std.proofs.Common.{◌≡◌, ◌⊎◌, ℕ, zero, suc, ◌+◌, ◌<◌, ◌≤◌, List, [], ◌∷◌, ◌++◌, length, map, take, refl, sym, ap, ◌∙◌, subst, arith, append_assoc, append-nil, Option, Some, None, slice_get, IfSome, ⊎_elim, inl, inr}
+use Rattle.std.proofs.Common.{◌≡◌, ◌⊎◌, ℕ, zero, suc, ◌+◌, ◌<◌, ◌≤◌, List, [], ◌∷◌, ◌++◌, length, map, take, refl, sym, ap, ◌∙◌, subst, arith, append_assoc, append-nil, take_all, Option, Some, None, slice_get, IfSome, ⊎_elim, inl, inr}
 use Rattle.std.specs.Prelude.{Contains, All, IsSome}
-use Rattle.std.proofs.lemmas.List.Elements.{All-head, All-tail, Contains-append_left, Contains-append_right, Contains-append_cases}
+use Rattle.std.proofs.lemmas.List.Elements.{All-nil, All-cons, All-head, All-tail, Contains-append_left, Contains-append_right, Contains-append_cases}
 use Rattle.std.proofs.Math.Seq.{take-append_seam}
 use Rattle.atomic_table.specs.Seated.{TableId}
+use Rattle.alg_model.specs.Lattices as lattices
 use Rattle.alg_model.specs.Lattices.{Lattice}
 use Rattle.lat_core.specs.declared.replies.Entry.{Entry}
-use Rattle.lat_core.specs.Histories.{entries_of}
-use Rattle.lat_history.specs.Books.{History}
+use Rattle.lat_core.specs.Histories.{IsAfter, entries_of}
+use Rattle.lat_history.specs.Books.{History, IsHistory}
 use Rattle.lat_gate.specs.History.{BeginsWith, of_number}
 use Rattle.lat_gate.specs.Rule.{Own, IsDealt, Has as HasOwn}
 use Rattle.lat_gate.specs.Seats.{Known, joined, dealt}
@@ -16,11 +17,29 @@ use Rattle.lat_gate.specs.declared.machine.Machine.{Ghosts}
 use Rattle.lat_gate.specs.declared.pass.Pass.{Pass}
 use Rattle.lat_gate.proofs.Histories.{begins_still}
 use Rattle.lat_gate.proofs.Holders.{contains_cases, contains_none, contains_head, contains_only}
-use Rattle.lat_shared.specs.Sharing.{Sharing, SharedPass, IsSession, EndsAs}
+use Rattle.lat_shared.specs.Sharing.{Sharing, SharedPass, IsSession, EndsAs, marks, first_pass}
 use Rattle.lat_shared.specs.PrivateSettings.{setting_of, edition_in, room_in}
 use Rattle.lat_shared.specs.PrivatePasses.{Keeps, IsKept, KeepFrom, Has, Covers, IsJoined, known_in, shared_pass, sharing_in, passes_from}
 use Rattle.lat_shared.proofs.TurnLemmas.{none_behind}
 
+-- ---- lists
+-- what holds of all elements of two lists holds of those of the first
+pub all_front : {X : Type 0} (P : X → Type 0) (xs ys : List X) → All P (xs ++ ys) → All P xs
+all_front P [] ys all = All-nil P
+all_front P (x ∷ xs) ys all = All-cons P x xs (All-head P x (xs ++ ys) all)
+    (all_front P xs ys (All-tail P x (xs ++ ys) all))
+
+-- and of the last element
+pub all_last : {X : Type 0} (P : X → Type 0) (xs : List X) (x : X) → All P (xs ++ x ∷ []) → P x
+all_last P [] x all = All-head P x [] all
+all_last P (y ∷ ys) x all = all_last P ys x (All-tail P y (ys ++ x ∷ []) all)
+
+-- a list of no elements
+pub none_left : {X : Type 0} (xs : List X) → length xs ≡ 0 → xs ≡ []
+none_left [] e = refl
+none_left (x ∷ xs) e = absurd (omega arith)
+
+-- ---- passes
 -- a history that begins with one that begins with a third
 pub begins_twice : {E : Type 0} (log front first : List E) → BeginsWith log front
     → BeginsWith front first → BeginsWith log first
@@ -35,6 +54,35 @@ its_number own n m mine is (theirs, c) =
     let p : ℕ × List Entry = (n, mine) in
     sym (ap (λ (q : ℕ × List Entry). q.0)
     (contains_only o p (subst (λ (l : Own Entry). Contains l o) is c)))
+
+-- **a shared history is known by its marks, its edition and its room**
+pub same_sharing : (s t : Sharing) → marks s ≡ marks t → s.edition ≡ t.edition → s.room ≡ t.room
+    → s ≡ t
+same_sharing s t e edition room =
+    let sessions : s.sessions ≡ t.sessions = cc in
+    let opened : s.opened ≡ t.opened = cc in
+    let words : s.gate.words ≡ t.gate.words = cc in
+    let slots : s.gate.slots ≡ t.gate.slots = cc in
+    let views : s.gate.views_name ≡ t.gate.views_name = cc in
+    let atom : s.gate.atom ≡ t.gate.atom = cc in
+    let block : s.gate.block ≡ t.gate.block = cc in
+    let offset : s.gate.offset ≡ t.gate.offset = cc in
+    let names : s.gate.slot_names ≡ t.gate.slot_names = cc in
+    λ i. record {
+      edition = edition i;
+      room = room i;
+      sessions = sessions i;
+      opened = opened i;
+      gate = record {
+        words = words i;
+        slots = slots i;
+        views_name = views i;
+        atom = atom i;
+        block = block i;
+        offset = offset i;
+        slot_names = names i;
+      };
+    }
 
 -- what a pass keeps
 module _ {M : Type 0} {g : Ghosts M Entry} where
@@ -189,6 +237,47 @@ module _ (k : Known Entry) (h : History) (sharing : Sharing) (s : sharing_in k �
         ∙ ap (entries_of n) (sym opened)
 
 -- ---- the passes as they are dealt
+-- a session's pass at the opening
+pub first_keeps : (h : History) (id : TableId) (sessions front n : ℕ) (view : Lattice)
+    → IsHistory h → IsSession sessions n → entries_of n h.entries ≡ [] → front ≡ length h.entries
+    → IsAfter h.edition h.entries view
+    → Keeps (dealt id (setting_of h) h.entries sessions n) n front view
+first_keeps h id sessions front n view k session unused f after = record {
+  own = ap (λ (l : List Entry). (n, l) ∷ []) (sym unused);
+  legal = k;
+  session = session;
+  begins = ([], sym (append-nil h.entries));
+  within = omega (arith, f);
+  view = subst (λ (es : List Entry). IsAfter h.edition es view)
+      (sym (take_all front h.entries (omega (arith, f)))) after;
+}
+
+-- and what contracts see of it
+pub first_shown : (h : History) (id : TableId) (sessions front room n : ℕ)
+    (edition : lattices.Edition) → edition ≡ h.edition → room ≡ h.room → front ≡ length h.entries
+    → shared_pass (dealt id (setting_of h) h.entries sessions n) n front
+    ≡ first_pass (record {
+      edition = edition;
+      room = room;
+      sessions = sessions;
+      opened = front;
+      gate = id;
+    }) n h.entries
+first_shown h id sessions front room n edition e r f =
+    let all : take front h.entries ≡ h.entries = take_all front h.entries (omega (arith, f)) in
+    λ i. record {
+      sharing = record {
+        edition = sym e i;
+        room = sym r i;
+        sessions = sessions;
+        opened = sym f i;
+        gate = id;
+      };
+      number = n;
+      seen = all i;
+      told = h.entries;
+    }
+
 module _ {M : Type 0} {g : Ghosts M Entry} where
   pub passes_append : (n front : ℕ) (xs : List (Pass M Entry g)) (x : Pass M Entry g)
       → passes_from n front (xs ++ x ∷ [])

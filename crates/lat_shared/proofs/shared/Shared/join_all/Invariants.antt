@@ -9,8 +9,8 @@ use Rattle.lat_shared.proofs.shared.Shared.join_all.Given as goal
 abbrev pub invariant-loop-pass : goal.invariant-loop-pass
 invariant-loop-pass l = (l.yielded ++ into_iter_items l.pass-iterator ≡ into_iter_items l.initial.pass-iterator)
     × (into_iter_len l.pass-iterator ≡ length (into_iter_items l.pass-iterator))
-    × All (IsPassOf l.self.now) (into_iter_items l.pass-iterator)
-    × (sharing_in (known l.kept) ≡ l.self.now)
+    × All (IsPassOf l.self) (into_iter_items l.pass-iterator)
+    × (sharing_in (known l.kept) ≡ l.self)
     × IsJoined (known l.kept)
     × Covers (known l.kept) (known l.initial.kept)
     × All (Has (known l.kept)) l.yielded
