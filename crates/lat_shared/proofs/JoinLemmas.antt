@@ -7,7 +7,7 @@ use Rattle.atomic_table.specs.Seated.{TableId}
 use Rattle.alg_model.specs.Lattices as lattices
 use Rattle.alg_model.specs.Lattices.{Lattice}
 use Rattle.lat_core.specs.declared.replies.Entry.{Entry}
-use Rattle.lat_core.specs.Histories.{IsAfter, entries_of}
+use Rattle.lat_core.specs.Histories.{IsAfter, IsSameSession, entries_of}
 use Rattle.lat_history.specs.Books.{History, IsHistory}
 use Rattle.lat_gate.specs.History.{BeginsWith, of_number}
 use Rattle.lat_gate.specs.Rule.{Own, IsDealt, Has as HasOwn}
@@ -17,7 +17,7 @@ use Rattle.lat_gate.specs.declared.machine.Machine.{Ghosts}
 use Rattle.lat_gate.specs.declared.pass.Pass.{Pass}
 use Rattle.lat_gate.proofs.Histories.{begins_still}
 use Rattle.lat_gate.proofs.Holders.{contains_cases, contains_none, contains_head, contains_only}
-use Rattle.lat_shared.specs.Sharing.{Sharing, SharedPass, IsSession, EndsAs, marks, first_pass}
+use Rattle.lat_shared.specs.Sharing.{Sharing, SharedPass, IsSession, EndsAs, marks, first_pass, knowledge_of}
 use Rattle.lat_shared.specs.PrivateSettings.{setting_of, edition_in, room_in}
 use Rattle.lat_shared.specs.PrivatePasses.{Keeps, IsKept, KeepFrom, Has, Covers, IsJoined, known_in, shared_pass, sharing_in, passes_from}
 use Rattle.lat_shared.proofs.TurnLemmas.{none_behind}
@@ -83,6 +83,14 @@ same_sharing s t e edition room =
         slot_names = names i;
       };
     }
+
+-- **so it stays the same through a port**
+pub port_sharing : (name other : ℕ) (old new : SharedPass)
+    → other ∷ marks new.sharing ≡ name ∷ marks old.sharing
+    → IsSameSession (knowledge_of old) (knowledge_of new) → new.sharing ≡ old.sharing
+port_sharing name other old new e same =
+    let marked : marks new.sharing ≡ marks old.sharing = cc in
+    same_sharing new.sharing old.sharing marked same.edition same.room
 
 -- what a pass keeps
 module _ {M : Type 0} {g : Ghosts M Entry} where

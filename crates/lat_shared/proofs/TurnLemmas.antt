@@ -1,14 +1,15 @@
 -- What a session's pass is before and after a turn.
-use Rattle.std.proofs.Common.{◌≡◌, ℕ, ◌+◌, ◌-◌, ◌^◌, ◌<◌, ◌≤◌, List, [], ◌∷◌, ◌++◌, length, map, take, drop, cond, refl, sym, ap, ap₂, ◌∙◌, subst, arith, eq-eqb, length-append, take-append-drop, take_all, append-nil, append_assoc}
-use Rattle.std.specs.Prelude.{Contains}
+use Rattle.std.proofs.Common.{◌≡◌, ℕ, ◌+◌, ◌-◌, ◌^◌, ◌<◌, ◌≤◌, List, [], ◌∷◌, ◌++◌, length, map, take, drop, cond, refl, sym, ap, ap₂, ◌∙◌, subst, arith, eq-eqb, length-append, take-append-drop, take_all, append-nil, append_assoc, Result, Ok, Err}
+use Rattle.std.specs.Prelude.{Contains, IfOk, IfErr}
 use Rattle.std.proofs.lemmas.List.{take-append-le, append_cancel_left}
 use Rattle.std.proofs.lemmas.List.Elements.{filter-append}
 use Rattle.alg_model.specs.Lattices.{Lattice}
 use Rattle.lat_core.specs.declared.requests.Request.{Request}
 use Rattle.lat_core.specs.declared.replies.Entry.{Entry}
 use Rattle.lat_core.specs.declared.replies.ChangeFault.{ChangeFault}
+use Rattle.lat_core.specs.declared.replies.Placed.{Placed}
 use Rattle.lat_core.specs.declared.replies.ChangeFault.TheVariants.{HistoryFull, NoMemory}
-use Rattle.lat_core.specs.Histories.{IsAfter, IsKnowledge, IsPlaced, IsUnplaced, IsRefusedBy, entries_of}
+use Rattle.lat_core.specs.Histories.{IsAfter, Knowledge, IsKnowledge, IsSameSession, IsPlaced, IsUnplaced, IsRefusedBy, entries_of}
 use Rattle.lat_core.proofs.HistoryLaws.{history_one}
 use Rattle.lat_history.specs.Books.{History, IsHistory, with_entry}
 use Rattle.lat_history.specs.declared.played.Played.{Played}
@@ -18,7 +19,7 @@ use Rattle.lat_gate.specs.History.{BeginsWith, of_number}
 use Rattle.lat_gate.specs.Seats.{Known, published, informed}
 use Rattle.lat_gate.proofs.Histories.{begins_still}
 use Rattle.lat_gate.proofs.Holders.{contains_head}
-use Rattle.lat_shared.specs.Sharing.{Sharing, SharedPass, knowledge_of}
+use Rattle.lat_shared.specs.Sharing.{SharedPass, knowledge_of, told_history}
 use Rattle.lat_shared.specs.PrivateSettings.{setting_of, edition_in, room_in, history_of, IsLegalUnder}
 use Rattle.lat_shared.specs.PrivatePasses.{Keeps, shared_pass, sharing_in}
 use Rattle.lat_shared.specs.PrivateTurns.{Found, IsTurnPlayed, IsTurnLost}
@@ -226,17 +227,23 @@ module _ (k : Known Entry) (n front : ℕ) (view : Lattice) (k' : Known Entry) (
   lost_unplaced = subst (λ (j : Known Entry). IsUnplaced (knowledge_of (shared_pass k n front))
       (knowledge_of (shared_pass j n front))) (sym t.pass) told_unplaced
 
--- a full history was told whole
-told_refused : (k : Known Entry) (n front : ℕ) (h : History) (fault : ChangeFault)
-    → Found k n h → IsBookFault h fault
-    → IsRefusedBy (knowledge_of (shared_pass (informed k h.entries) n front)) fault
-told_refused k n front h (HistoryFull m) f full =
-    (full.0 ∙ ap room_in f.setting, full.1)
-told_refused k n front h NoMemory f room = tt
+-- entered or not, the session and its history are the same
+pub told_same : (old new : Knowledge) (request : Request) (result : Result Placed ChangeFault)
+    → IfOk result (λ done. IsPlaced old new request done.reply done.place)
+    → IfErr result (λ _. IsUnplaced old new) → IsSameSession old new
+told_same old new request (Ok done) placed unplaced = placed.same
+told_same old new request (Err fault) placed unplaced = unplaced.same
 
-pub lost_refused : (k : Known Entry) (n front : ℕ) (k' : Known Entry) (fault : ChangeFault)
-    → IsTurnLost k n k' fault
-    → IsRefusedBy (knowledge_of (shared_pass k' n front)) fault
-lost_refused k n front k' fault t =
-    subst (λ (j : Known Entry). IsRefusedBy (knowledge_of (shared_pass j n front)) fault) (sym t.pass)
-    (told_refused k n front t.before fault t.found t.refused)
+-- a fault is that of a book with the history that was told
+pub lost_fault : (k : Known Entry) (n front : ℕ) (k' : Known Entry) (fault : ChangeFault)
+    → IsTurnLost k n k' fault → IsBookFault (told_history (shared_pass k' n front)) fault
+lost_fault k n front k' fault t =
+    subst (λ (j : Known Entry). IsBookFault (told_history (shared_pass j n front)) fault) (sym t.pass)
+    (subst (λ (s : List ℕ). IsBookFault (history_of s t.before.entries) fault) t.found.setting
+    t.refused)
+
+-- which a port says less of
+pub book_refused : (pass : SharedPass) (fault : ChangeFault)
+    → IsBookFault (told_history pass) fault → IsRefusedBy (knowledge_of pass) fault
+book_refused pass (HistoryFull n) full = full
+book_refused pass NoMemory room = tt

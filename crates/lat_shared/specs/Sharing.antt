@@ -6,6 +6,7 @@
 --     IsSession sharing n     n is the number of one of its sessions
 --     SharedPass              the session, what its view stands on, and what it was told
 --     knowledge_of pass       the same as a session's knowledge
+--     told_history pass       the history that the session was told
 --     first_pass sharing n entries     the pass of a session that has made no call yet
 --     IsPassOf sharing pass   the pass is one of this shared history
 --     EndsAs pass h           the history, once it is closed, has of this session what its pass was
@@ -62,6 +63,10 @@ knowledge_of pass = record {
   seen = pass.seen;
   told = pass.told;
 }
+
+abbrev pub told_history : SharedPass → History
+told_history pass =
+    record { edition = pass.sharing.edition; room = pass.sharing.room; entries = pass.told }
 
 -- it was told all entries, and sees them
 abbrev pub first_pass : Sharing → ℕ → List Entry → SharedPass

@@ -2,10 +2,11 @@
 
 ghost use Rattle.std.specs.Prelude.{◌≡◌, ℕ, ◌+◌, ◌<◌, ◌≤◌, [], take, map, length, slice_get, vec_len, All, Contains, Some, IfOk, IfErr};
 ghost use Rattle.lat_core.specs.Step.{IsProperRequest};
-ghost use Rattle.lat_core.specs.Histories.{IsKnowledge, IsPlaced, IsUnplaced, IsRefusedBy, entries_of};
+ghost use Rattle.lat_core.specs.Histories.{IsKnowledge, IsPlaced, IsUnplaced, entries_of};
 ghost use Rattle.lat_history.specs.Books.{IsHistory};
+ghost use Rattle.lat_history.specs.Plays.{IsBookFault};
 ghost use Rattle.lat_gate.specs.Passes.{known};
-ghost use Rattle.lat_shared.specs.Sharing.{IsPassOf, IsSession, EndsAs, sharing_of, first_pass, knowledge_of};
+ghost use Rattle.lat_shared.specs.Sharing.{IsPassOf, IsSession, EndsAs, sharing_of, first_pass, knowledge_of, told_history};
 ghost use Rattle.lat_shared.specs.PrivatePasses.{Has, IsJoined, KeepFrom, passes_from, sharing_in};
 
 use crate::books::SharedBook;
@@ -103,7 +104,9 @@ impl Shared {
     }
 
     /// Enters a change of a session, once its turn has come, and shows it to the session with all
-    /// entries before it. On a fault no entry was made, and the session sees what it saw before.
+    /// entries before it. `HistoryFull` exactly where there was no room left at its turn, and then
+    /// the session was told the whole history. After a fault it has made no entry, and sees what it
+    /// saw before.
     ///
     /// Requires that the pass is of this object.
     pub fn change<R: Wait>(
@@ -120,7 +123,7 @@ impl Shared {
             (knowledge_of pass.new) request.now done.reply done.place) }
         ensures unplaced { IfErr result (λ _.
             IsUnplaced (knowledge_of pass.old) (knowledge_of pass.new)) }
-        ensures fault { IfErr result (λ fault. IsRefusedBy (knowledge_of pass.new) fault) }
+        ensures fault { IfErr result (IsBookFault (told_history pass.new)) }
         ensures known { IsKnowledge (knowledge_of pass.new) }
     {
         let Some(seat) = pass.pass.take() else {

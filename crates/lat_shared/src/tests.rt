@@ -2,12 +2,14 @@
 
 ghost use Rattle.std.specs.Prelude.{◌≡◌, [], IfOk};
 ghost use Rattle.lat_core.specs.Names.{IsDeclaredName};
+ghost use Rattle.lat_core.specs.Histories.{IsSameSession};
 ghost use Rattle.lat_core.specs.Step.{IsProperRequest};
 ghost use Rattle.lat_shared.specs.Sharing.{IsPassOf, first_pass};
 
 use crate::{SessionPass, Shared, SharedPort};
 use lat_core::{
-    Answer, ChangeFault, Digits, Edition, FieldName, NoMemory, Port, Question, Reply, Request,
+    Answer, ChangeFault, Digits, Edition, FieldName, NoMemory, Placed, Port, Question, Reply,
+    Request,
 };
 use lat_history::Book;
 use std::alloc::Global;
@@ -98,6 +100,31 @@ fn sync_each<R: Wait>(
     (pass, Ok(()))
 }
 
+// A change through any port, which shows then what the session sees.
+fn sync_by<P: Port>(port: &mut P) -> Result<Placed, ChangeFault>
+    ensures same { IsSameSession (P.knowledge port.old) (P.knowledge port.new) }
+    ensures borrowed { P.borrows port.new ≡ P.borrows port.old }
+{
+    let placed = port.change(&Request::Sync)?;
+    let _front = port.front();
+    let _count = port.read(&Question::Count);
+    Ok(placed)
+}
+
+// A change of a session through a port of which the trait alone is known.
+fn sync_shared<R: Wait>(
+    rt: &R,
+    shared: &Shared,
+    pass: &mut SessionPass,
+) -> Result<Placed, ChangeFault>
+    requires { IsPassOf shared.now pass.old }
+    ensures of_shared { IsPassOf shared.now pass.new }
+    ensures number { pass.new.number ≡ pass.old.number }
+{
+    let mut port = SharedPort::new(rt, shared, pass);
+    sync_by(&mut port)
+}
+
 #[test]
 fn two_sessions_by_turns(rt: HostRuntime) -> Result<(), Fail> {
     let (shared, mut first, mut second) = open_two(rt.alloc(), 2)?;
@@ -130,16 +157,10 @@ fn two_sessions_by_turns(rt: HostRuntime) -> Result<(), Fail> {
 #[test]
 fn a_port(rt: HostRuntime) -> Result<(), Fail> {
     let (shared, mut first, second) = open_two(rt.alloc(), 2)?;
-    let mut port = SharedPort::new(&rt, &shared, &mut first);
-    let synced = port.change(&Request::Sync)?;
-    assert!(rt; synced.place == 0 && port.front() == 1);
-    assert!(rt;
-        matches!(
-            port.read(&Question::Count),
-            Answer::Counted { fields: 11, .. }
-        )
-    );
-    assert!(rt; first.front() == 1 && second.front() == 0);
+    let synced = sync_shared(&rt, &shared, &mut first)?;
+    assert!(rt; synced.place == 0 && first.front() == 1 && second.front() == 0);
+    let book = close_two(rt.alloc(), shared, first, second)?;
+    assert!(rt; book.length() == 1);
     Ok(())
 }
 

@@ -14,7 +14,7 @@ loop-pass-init c =
     let gives = c.into_iter-pass-iterator.ensures.into_iter_gives in
     let every = subst (All (IsPassOf c.args.self.now)) c.in-Some.ensures.items c.requires.of_shared in (
       refl,
-      gives.1 ∙ ap length (sym gives.0),
+      gives.1 ∙ c.pop.new.self.ok.0 ∙ ap length (sym gives.0),
       subst (All (IsPassOf c.args.self.now)) (sym gives.0)
           (all_front (IsPassOf c.args.self.now) c.pop.new.self.items (last ∷ []) every),
       c.into_pass-kept.ensures.sharing ∙ all_last (IsPassOf c.args.self.now) c.pop.new.self.items last every,

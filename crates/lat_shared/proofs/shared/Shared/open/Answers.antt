@@ -24,9 +24,9 @@ with_views-requires-clause-keep c =
     keep_dealt (gate_id c.in-Ok.gate) (setting_of h) h.entries c.args.sessions c.length-opened.result c.in_ok-view.view 1 c.in-Ok.dealt.items
     (λ i less. c.in-Ok.ensures.dealt i (omega arith))
     (λ m low high. let small : m ≤ c.args.sessions = omega arith in
-        first_keeps h (gate_id c.in-Ok.gate) c.args.sessions c.length-opened.result m c.in_ok-view.view whole (low, small)
-        (ap (λ (h : History). entries_of m h.entries) c.new.ensures.same ∙ c.requires.unused m (low, small))
-        (c.length-opened.ensures.value ∙ front) after)
+    first_keeps h (gate_id c.in-Ok.gate) c.args.sessions c.length-opened.result m c.in_ok-view.view whole (low, small)
+    (ap (λ (h : History). entries_of m h.entries) c.new.ensures.same ∙ c.requires.unused m (low, small))
+    (c.length-opened.ensures.value ∙ front) after)
 
 pub returns-clause-count : goal.returns-clause-count
 returns-clause-count c = omega (
