@@ -47,9 +47,7 @@ fn close_two(
     requires first { IsPassOf shared first × (first.number ≡ 1) }
     requires second { IsPassOf shared second × (second.number ≡ 2) }
 {
-    let mut passes = Vec::new(alloc);
-    passes.push(second)?;
-    passes.push(first)?;
+    let passes = Vec::from_array(alloc, [second, first])?;
     Ok(shared.close(passes))
 }
 
@@ -100,15 +98,12 @@ fn sync_each<R: Wait>(
     (pass, Ok(()))
 }
 
-// A change through any port, which shows then what the session sees.
+// A change through any port.
 fn sync_by<P: Port>(port: &mut P) -> Result<Placed, ChangeFault>
     ensures same { IsSameSession (P.knowledge port.old) (P.knowledge port.new) }
     ensures borrowed { P.borrows port.new ≡ P.borrows port.old }
 {
-    let placed = port.change(&Request::Sync)?;
-    let _front = port.front();
-    let _count = port.read(&Question::Count);
-    Ok(placed)
+    port.change(&Request::Sync)
 }
 
 // A change of a session through a port of which the trait alone is known.
@@ -158,7 +153,14 @@ fn two_sessions_by_turns(rt: HostRuntime) -> Result<(), Fail> {
 fn a_port(rt: HostRuntime) -> Result<(), Fail> {
     let (shared, mut first, second) = open_two(rt.alloc(), 2)?;
     let synced = sync_shared(&rt, &shared, &mut first)?;
-    assert!(rt; synced.place == 0 && first.front() == 1 && second.front() == 0);
+    let port = SharedPort::new(&rt, &shared, &mut first);
+    assert!(rt; synced.place == 0 && port.front() == 1 && second.front() == 0);
+    assert!(rt;
+        matches!(
+            port.read(&Question::Count),
+            Answer::Counted { fields: 11, .. }
+        )
+    );
     let book = close_two(rt.alloc(), shared, first, second)?;
     assert!(rt; book.length() == 1);
     Ok(())
