@@ -5,8 +5,6 @@ mod books;
 mod session_passes;
 mod shared;
 mod shared_ports;
-#[cfg(test)]
-mod tests;
 mod turns;
 
 pub use session_passes::SessionPass;
