@@ -7,6 +7,7 @@ mod DeclarableFields
 mod Insertions
 mod Replies
 mod ForcedAdditions
+mod EmbeddableFields
 mod MappedLists
 mod PairLists
 mod Wording

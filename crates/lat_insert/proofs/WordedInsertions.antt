@@ -9,7 +9,7 @@ use Rattle.alg_compatible.proofs.Laws.{missing_one_law}
 use Rattle.alg_choices.specs.Linking.{AreNewPairs}
 use Rattle.alg_choices.proofs.Linking.{inserted}
 use Rattle.alg_choices.proofs.Laws.{pairs_law}
-use Rattle.lat_insert.specs.Wording.{IsStoredPair, FillingIsAsWorded, InsertionIsAsWorded, LinkedPairsAreStored, StoredMapsAreAsWorded, AdditionsAreCounted}
+use Rattle.lat_insert.specs.Wording.{IsStoredPair, FillingIsAsWorded, InsertionIsAsWorded, RuledPairsAreStored, StoredMapsAreAsWorded, AdditionsAreCounted}
 use Rattle.lat_insert.proofs.ForcedAdditions.{FillsByChoice, insertion_fills}
 use Rattle.lat_insert.proofs.PairLists.{listed_pairs}
 use Rattle.lat_insert.proofs.Wording.{stored_as_worded, filled_as_worded, pairs_after}
@@ -31,8 +31,8 @@ insertion_worded L M E F v C I =
     let B = insertion_fills C I in
     (filled_as_worded (step_inserted C B)).0 B.fills.filled
 
-pub linked_pairs_stored : LinkedPairsAreStored
-linked_pairs_stored L M E F v C I i k =
+pub ruled_pairs_stored : RuledPairsAreStored
+ruled_pairs_stored L M E F v C I i k =
     let B = insertion_fills C I in
     pairs_after (step_inserted C B) B.fills.filled i k
 

@@ -17,7 +17,7 @@ use Rattle.alg_compatible.proofs.Transfer.{lattice_decided, to_theory}
 use Rattle.alg_compatible.proofs.Insertions.{insertion_of, to_into, from_into, from_forced}
 use Rattle.alg_compatible.proofs.Filling.{Inserted, is_insertion}
 use Rattle.alg_compatible.proofs.Rules.{stored_by_rules}
-use Rattle.lat_insert.specs.Wording.{IsStoredPair, IsMemberAfter, IsMemberPair, IsWay, IsPairOut, IsLinkedPair, IsMap, IsMapOfMember, Agrees, IsOnlyMap, IsStoredAsWorded, IsFilledAsWorded}
+use Rattle.lat_insert.specs.Wording.{IsStoredPair, IsMemberAfter, IsMemberPair, IsWay, IsPairOut, IsRuledPair, IsMap, IsMapOfMember, Agrees, IsOnlyMap, IsStoredAsWorded, IsFilledAsWorded}
 use Rattle.lat_insert.specs.Wording.IsMemberAfter.{before, added}
 use Rattle.lat_insert.specs.Wording.IsMapOfMember.{stored, through, by_root}
 use Rattle.lat_insert.specs.Wording.IsStoredAsWorded.{among, out, as_before}
@@ -126,10 +126,10 @@ module _ {L : Lattice} {E F : ℕ} {phi : List (List ℕ)} {rows : List Row}
   from_beyond : {i k : ℕ} → Rules.IsPairBeyond L E F phi rows i k → IsPairOut L E F rows i k
   from_beyond p = record { source = from_subfield p.source; target = λ s. p.target (to_subfield s); way = (p.way.0, from_way p.way.1) }
 
-  not_linked : {i k : ℕ} → ¬ Rules.IsForcedPair L E F phi rows i k
-      → ¬ Rules.IsPairBeyond L E F phi rows i k → IsLinkedPair L E F rows i k → ⊥
-  not_linked p q (IsLinkedPair.among x) = p (to_pair x)
-  not_linked p q (IsLinkedPair.out x) = q (to_beyond x)
+  not_ruled : {i k : ℕ} → ¬ Rules.IsForcedPair L E F phi rows i k
+      → ¬ Rules.IsPairBeyond L E F phi rows i k → IsRuledPair L E F rows i k → ⊥
+  not_ruled p q (IsRuledPair.among x) = p (to_pair x)
+  not_ruled p q (IsRuledPair.out x) = q (to_beyond x)
 
   -- ---- stored maps
   to_worded : {i k : ℕ} {m : List (List ℕ)} → IsStoredByRules L E F phi rows i k m
@@ -140,7 +140,7 @@ module _ {L : Lattice} {E F : ℕ} {phi : List (List ℕ)} {rows : List Row}
     where
       least : (l : ℕ) → IsWay L E F rows i k l → j ≤ l
       least l x = ⊎_elim (λ below. absurd (first l below (to_way x))) (λ above. above) (cases_lt l j)
-  to_worded (IsStoredByRules.as_before p q h) = as_before (λ x. not_linked p q x) h
+  to_worded (IsStoredByRules.as_before p q h) = as_before (λ x. not_ruled p q x) h
 
   from_worded : {i k : ℕ} {m : List (List ℕ)} → IsStoredAsWorded L E F phi rows i k m
       → IsStoredByRules L E F phi rows i k m
@@ -150,7 +150,7 @@ module _ {L : Lattice} {E F : ℕ} {phi : List (List ℕ)} {rows : List Row}
       (λ l below x. let above = w.least l (from_way x) in omega (arith, below, above))
       (from_only p.source w.way.member w.way.divides o) h
   from_worded (as_before n h) =
-      IsStoredByRules.as_before (λ p. n (IsLinkedPair.among (from_pair p))) (λ p. n (IsLinkedPair.out (from_beyond p))) h
+      IsStoredByRules.as_before (λ p. n (IsRuledPair.among (from_pair p))) (λ p. n (IsRuledPair.out (from_beyond p))) h
 
   -- **what is stored after an insertion is what the rule names**
   pub stored_as_worded : {i k : ℕ} {m : List (List ℕ)}
@@ -159,12 +159,12 @@ module _ {L : Lattice} {E F : ℕ} {phi : List (List ℕ)} {rows : List Row}
       (λ h. to_worded ((stored_by_rules H).0 h), λ h. (stored_by_rules H).1 (from_worded h))
 
   -- **a pair for which the rule asks has a map**
-  pub linked_stored : {i k : ℕ} → IsLinkedPair L E F rows i k
+  pub ruled_stored : {i k : ℕ} → IsRuledPair L E F rows i k
       → (m : List (List ℕ)) × IsStoredAfter L E F phi rows i k m
-  linked_stored (IsLinkedPair.among p) =
+  ruled_stored (IsRuledPair.among p) =
       let (m, f) = forced_of_members p.source p.target p.divides in
       (m, IsStoredAfter.forced f)
-  linked_stored {k = k} (IsLinkedPair.out p) =
+  ruled_stored {k = k} (IsRuledPair.out p) =
       let (j, w) = p.way in
       let (n, h) = w.is_stored in
       let (m, f) = forced_of_members p.source w.member w.divides in
@@ -189,17 +189,17 @@ module _ {L : Lattice} {E F : ℕ} {phi : List (List ℕ)} {M : Lattice}
 
   -- **the pairs with a map are those that had one and those for which the rule asks**
   pub pairs_after : IsFilled L E F phi M → (i k : ℕ)
-      → IsStoredPair M i k ↔ (IsStoredPair L i k ⊎ IsLinkedPair L E F M.rows i k)
-  pairs_after D i k = (λ (m, s). asked ((stored_as_worded H).0 (D.maps.0 s)), λ h. ⊎_elim kept linked h)
+      → IsStoredPair M i k ↔ (IsStoredPair L i k ⊎ IsRuledPair L E F M.rows i k)
+  pairs_after D i k = (λ (m, s). asked ((stored_as_worded H).0 (D.maps.0 s)), λ h. ⊎_elim kept ruled h)
     where
       asked : {m : List (List ℕ)} → IsStoredAsWorded L E F phi M.rows i k m
-          → IsStoredPair L i k ⊎ IsLinkedPair L E F M.rows i k
-      asked (among p o) = inr (IsLinkedPair.among p)
-      asked (out p w o h) = inr (IsLinkedPair.out p)
+          → IsStoredPair L i k ⊎ IsRuledPair L E F M.rows i k
+      asked (among p o) = inr (IsRuledPair.among p)
+      asked (out p w o h) = inr (IsRuledPair.out p)
       asked (as_before {m} n h) = inl (m, h)
 
       kept : IsStoredPair L i k → IsStoredPair M i k
       kept (m, h) = (m, D.maps.1 (IsStoredAfter.before h))
 
-      linked : IsLinkedPair L E F M.rows i k → IsStoredPair M i k
-      linked x = let (m, h) = linked_stored H x in (m, D.maps.1 h)
+      ruled : IsRuledPair L E F M.rows i k → IsStoredPair M i k
+      ruled x = let (m, h) = ruled_stored H x in (m, D.maps.1 h)

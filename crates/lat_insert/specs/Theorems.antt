@@ -1,11 +1,12 @@
--- What an insertion adds is forced, and which fields are declared: in words, and as statements.
-use Rattle.std.specs.Prelude.{◌≡◌, ◌↔◌, ℕ, ◌+◌, ◌<◌, ◌≤◌, false, List, length, Contains, Option}
+-- What an insertion adds is forced, which fields are declared, and which are embedded: in words, and
+-- as statements.
+use Rattle.std.specs.Prelude.{◌≡◌, ◌↔◌, ℕ, ◌+◌, ◌<◌, ◌≤◌, false, List, length, Contains, Option, None}
 use Rattle.alg_model.specs.Coefficients.{residues}
 use Rattle.alg_model.specs.Factors.{IsMonic, IsIrreducible}
 use Rattle.alg_model.specs.Values.{degree}
 use Rattle.alg_model.specs.Maps.{degree_of}
 use Rattle.alg_model.specs.Lattices.{Lattice, field_at, Stored, Grows, IsCompatible}
-use Rattle.alg_model.specs.Candidates.{embedding_by}
+use Rattle.alg_model.specs.Candidates.{embedding_by, AreMissing}
 use Rattle.lat_core.specs.declared.editions.Edition.{Edition}
 use Rattle.lat_core.specs.declared.tagged.Sending.{Sending}
 use Rattle.lat_core.specs.declared.requests.Request.TheVariants.{Declare, Embed}
@@ -14,7 +15,7 @@ use Rattle.lat_core.specs.declared.replies.Reply.TheVariants.{Declared, Embedded
 use Rattle.lat_core.specs.Digits.{AreDigits}
 use Rattle.lat_core.specs.Editions.{edition_of}
 use Rattle.lat_core.specs.Names.{IsDeclaredName}
-use Rattle.lat_core.specs.Step.{IsNamed, IsFreeName, Steps}
+use Rattle.lat_core.specs.Step.{IsNamed, IsFreeName, HaveOneCharacteristic, HaveDividingDegrees, Steps}
 
 -- from L a step that embeds field E into field F, by the image v of the generator, leads to M
 pub record IsInsertion (L : Lattice) (E F : ℕ) (v : List ℕ) (M : Lattice) : Type 0 where
@@ -88,3 +89,45 @@ DeclaredFieldIsNew = (L : Lattice) (name : List ℕ) (p : ℕ) (f : List ℕ) (n
 abbrev pub DeclarableHasDigits : Type 0
 DeclarableHasDigits = (L : Lattice) (name : List ℕ) (p : ℕ) (f : List ℕ) (e : Edition)
     → L.edition ≡ edition_of e → IsDeclarable L name p f → AreDigits f
+
+-- ---- which fields are embedded
+-- the names of two fields of one characteristic, where the degree of the first divides that of the
+-- second, and where there is room for a field of each missing degree
+pub record AreEmbeddableNames (L : Lattice) (from into : List ℕ) : Type 0 where
+  pub E : ℕ
+  pub F : ℕ
+  pub source : IsNamed L E from
+  pub target : IsNamed L F into
+  pub characteristic : HaveOneCharacteristic L E F
+  pub degrees : HaveDividingDegrees L E F
+  pub missing : List ℕ
+  pub are_missing : AreMissing L E F missing
+  pub room : length L.rows + length missing ≤ L.edition.room
+
+-- the reply tells of an embedding, whichever it is and whatever it adds
+abbrev pub IsEmbedded : Reply → Type 0
+IsEmbedded reply = (image : List ℕ) × (made : ℕ) × (linked : ℕ)
+    × (reply ≡ Embedded image made linked)
+
+-- Where nothing is prescribed, a request to embed such a field is answered so: it has no other reply.
+abbrev pub EmbeddableIsEmbedded : Type 0
+EmbeddableIsEmbedded = (L : Lattice) (from into : List ℕ) (reply : Reply) (M : Lattice)
+    → IsCompatible L → AreEmbeddableNames L from into → Steps L (Embed from into None) reply M
+    → IsEmbedded reply
+
+-- And it has such a reply.
+abbrev pub EmbeddableHasReply : Type 0
+EmbeddableHasReply = (L : Lattice) (from into : List ℕ)
+    → IsCompatible L → AreEmbeddableNames L from into
+    → (reply : Reply) × (M : Lattice) × Steps L (Embed from into None) reply M × IsEmbedded reply
+
+-- Only such a field is embedded.
+abbrev pub OnlyEmbeddableIsEmbedded : Type 0
+OnlyEmbeddableIsEmbedded = (L : Lattice) (from into : List ℕ) (reply : Reply) (M : Lattice)
+    → Steps L (Embed from into None) reply M → IsEmbedded reply → AreEmbeddableNames L from into
+
+-- Where a field is embedded, prescribed values or none, the lattice afterwards has the map that
+-- sends its generator to the image that is answered.
+abbrev pub EmbeddingIsStored : Type 0
+EmbeddingIsStored = (L M : Lattice) (E F : ℕ) (v : List ℕ)
+    → IsCompatible L → IsInsertion L E F v M → Stored M E F (embedding_by L E F v)

@@ -6,7 +6,7 @@
 --     IsWay .. i k j              member j has a map into k in L, and the degree of i divides j's
 --     IsLeastWay .. i k j         it is the least such member
 --     IsPairOut .. i k            i is a member and k is none, and there is such a member
---     IsLinkedPair .. i k         the rule asks for a map: the pair is of one of these two kinds
+--     IsRuledPair .. i k          the rule asks for a map: the pair is of one of these two kinds
 --     IsMap K G m                 m is a map from K to G, whatever it keeps
 --     IsMapOfMember .. i m        m is the map of member i into F
 --     Agrees .. i j m             m, followed by the map of member j into F, is that of member i
@@ -58,10 +58,10 @@ module _ (L : Lattice) (E F : ℕ) (rows : List Row) where
     pub target : ¬ IsMemberAfter k
     pub way : (j : ℕ) × IsWay i k j
 
-  -- a pair that has a map afterwards, whether it had one before or not
-  pub data IsLinkedPair (i k : ℕ) : Type 0 where
-    among : IsMemberPair i k → IsLinkedPair i k
-    out : IsPairOut i k → IsLinkedPair i k
+  -- a pair for which the rule asks for a map, whether it had one before or not
+  pub data IsRuledPair (i k : ℕ) : Type 0 where
+    among : IsMemberPair i k → IsRuledPair i k
+    out : IsPairOut i k → IsRuledPair i k
 
 -- ---- which map
 -- the images of 1, x, .. are values of G
@@ -103,7 +103,7 @@ module _ (L : Lattice) (E F : ℕ) (phi : List (List ℕ)) (rows : List Row) whe
         → IsStoredAsWorded i k m
     out : {j : ℕ} {m n : List (List ℕ)} → IsPairOut L E F rows i k → IsLeastWay L E F rows i k j
         → IsOnlyMap i j m → Stored L j k n → IsStoredAsWorded i k (comp (field_at rows k) m n)
-    as_before : {m : List (List ℕ)} → ¬ IsLinkedPair L E F rows i k → Stored L i k m
+    as_before : {m : List (List ℕ)} → ¬ IsRuledPair L E F rows i k → Stored L i k m
         → IsStoredAsWorded i k m
 
 -- A field is added for each missing degree, and each pair has the map that the rule names.
@@ -129,10 +129,10 @@ InsertionIsAsWorded = (L M : Lattice) (E F : ℕ) (v : List ℕ)
 
 -- The pairs that have a map afterwards are those that had one and those for which the rule asks:
 -- for each of these there is the map that it names.
-abbrev pub LinkedPairsAreStored : Type 0
-LinkedPairsAreStored = (L M : Lattice) (E F : ℕ) (v : List ℕ)
+abbrev pub RuledPairsAreStored : Type 0
+RuledPairsAreStored = (L M : Lattice) (E F : ℕ) (v : List ℕ)
     → IsCompatible L → IsInsertion L E F v M → (i k : ℕ)
-    → IsStoredPair M i k ↔ (IsStoredPair L i k ⊎ IsLinkedPair L E F M.rows i k)
+    → IsStoredPair M i k ↔ (IsStoredPair L i k ⊎ IsRuledPair L E F M.rows i k)
 
 -- The rule holds of the pairs that had a map too: it names the map that they had.
 abbrev pub StoredMapsAreAsWorded : Type 0

@@ -10,5 +10,6 @@ mod steps;
 
 pub use laws::{
     insertions_are_as_worded, insertions_are_forced, irreducible_polynomials_are_declared,
+    plain_embeddings_are_embedded,
 };
 pub use steps::step;
