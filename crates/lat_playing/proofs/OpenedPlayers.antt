@@ -1,22 +1,21 @@
 -- Players before their first command.
-use Rattle.std.proofs.Common.{◌≡◌, ℕ, suc, ◌+◌, ◌<◌, ◌≤◌, List, [], ◌∷◌, ◌++◌, length, map, take, drop, refl, sym, ap, ◌∙◌, subst, arith, inl, inr, append_assoc, take-suc, drop-cons, add-one, length-append}
-use Rattle.std.specs.Prelude.{All, sum_by, slice_index_or, Some}
-use Rattle.std.specs.FinMap.{empty, get, len, get-empty, len-empty}
+use Rattle.std.proofs.Common.{◌≡◌, ℕ, suc, ◌+◌, ◌<◌, ◌≤◌, List, [], ◌∷◌, ◌++◌, length, map, take, drop, sym, ap, ◌∙◌, subst, arith, inl, inr, append_assoc, take-suc, drop-cons, add-one, length-append}
+use Rattle.std.specs.Prelude.{All, slice_index_or}
+use Rattle.std.specs.FinMap.{empty, get-empty, len-empty}
 use Rattle.std.proofs.lemmas.Bool.{cases_eq}
 use Rattle.std.proofs.lemmas.List.{map-append, get_or_append_left, get_or_push}
 use Rattle.std.proofs.lemmas.List.Sums.{sum_by_push, sum_by-cons}
 use Rattle.alg_model.specs.Lattices.{Lattice}
 use Rattle.lat_core.specs.declared.tagged.Tagged.{Tagged}
-use Rattle.lat_language.specs.declared.commands.Command.{Command}
 use Rattle.lat_language.specs.declared.scripts.SessionScript.{SessionScript}
 use Rattle.lat_language.specs.Grammar.{session_commands}
-use Rattle.lat_session.specs.Variables.{Variables, name_cmp, Holds, AreVariables}
+use Rattle.lat_session.specs.Variables.{name_cmp, Holds, AreVariables}
 use Rattle.lat_session.specs.Commands.{IsProperCommand}
 use Rattle.lat_history.specs.Books.{History}
-use Rattle.lat_history.specs.Passes.{Pass, IsPassOf}
+use Rattle.lat_history.specs.Passes.{IsPassOf}
 use Rattle.lat_playing.specs.declared.players.Player.{Player}
 use Rattle.lat_playing.specs.Worlds.{new_session}
-use Rattle.lat_playing.specs.PrivatePlays.{IsSeated, Shown, shown, shown_player, opened, IsReady, left_count, AreReady}
+use Rattle.lat_playing.specs.PrivatePlays.{Shown, shown, shown_player, opened, IsReady, left_count, AreReady}
 
 -- ---- no variables
 no_variable : {name : List ℕ} {t : Tagged} → Holds empty name t → ⊥

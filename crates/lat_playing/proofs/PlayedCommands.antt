@@ -1,6 +1,6 @@
 -- From what a session does over its port to what it leaves of its book.
-use Rattle.std.proofs.Common.{◌≡◌, ℕ, ◌+◌, ◌<◌, ◌≤◌, true, List, [], ◌∷◌, ◌++◌, length, take, refl, sym, ap, ap₂, ◌∙◌, subst, arith, length-append, length-take, append-nil, take_all}
-use Rattle.std.specs.Prelude.{All, Result, Ok, Err, IfOk, OnOk, pred}
+use Rattle.std.proofs.Common.{◌≡◌, ℕ, ◌+◌, ◌<◌, ◌≤◌, List, [], ◌∷◌, ◌++◌, length, take, refl, sym, ap, ap₂, ◌∙◌, subst, arith, length-append, length-take, append-nil}
+use Rattle.std.specs.Prelude.{All, Result, Ok, Err, IfOk, OnOk}
 use Rattle.std.proofs.lemmas.List.Elements.{All-tail}
 use Rattle.alg_model.specs.Lattices as lattices
 use Rattle.alg_model.specs.Lattices.{Lattice}
@@ -10,9 +10,9 @@ use Rattle.lat_core.specs.declared.replies.Entry.{Entry}
 use Rattle.lat_core.specs.declared.outcomes.Outcome.{Outcome}
 use Rattle.lat_core.specs.declared.outcomes.Outcome.TheVariants.{Changed}
 use Rattle.lat_core.specs.declared.outcomes.Line.{Line}
-use Rattle.lat_core.specs.Step.{IsProperRequest, Steps}
-use Rattle.lat_core.specs.Histories.{Leads, IsAfter, IsLegal, Knowledge, IsKnowledge, IsPlaced, IsUnplaced, IsRefusedBy}
-use Rattle.lat_core.proofs.HistoryLaws.{leads_split, history_one}
+use Rattle.lat_core.specs.Step.{Steps}
+use Rattle.lat_core.specs.Histories.{IsAfter, IsLegal, IsKnowledge, IsPlaced, IsUnplaced}
+use Rattle.lat_core.proofs.HistoryLaws.{leads_split}
 use Rattle.lat_core.specs.declared.memory.NoMemory.{NoMemory}
 use Rattle.lat_language.specs.Texts.{line_text}
 use Rattle.lat_session.specs.Commands.{IsProperCommand}
@@ -29,7 +29,7 @@ use Rattle.lat_history.proofs.PassLemmas.{pass_of_longer, port_leaves}
 use Rattle.lat_playing.specs.declared.players.Player.{Player}
 use Rattle.lat_playing.specs.Worlds.{HasLine}
 use Rattle.lat_playing.specs.Worlds.HasLine.{change as change_line, read as read_line}
-use Rattle.lat_playing.specs.PrivatePlays.{IsSeated, Moves, PlaysCommand, PlaysLine, HasPlayed}
+use Rattle.lat_playing.specs.PrivatePlays.{IsSeated, Moves, PlaysCommand, HasPlayed}
 use Rattle.lat_playing.specs.PrivatePlays.PlaysLine.{nothing as no_line, plays as next_line}
 
 -- the lattice that is seen is the view of the pass

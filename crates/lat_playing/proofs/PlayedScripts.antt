@@ -1,6 +1,6 @@
 -- From the parts of a play to the world of a script, and to its lines.
-use Rattle.std.proofs.Common.{◌≡◌, ℕ, zero, suc, ◌+◌, ◌<◌, ◌≤◌, List, [], ◌∷◌, ◌++◌, length, map, take, drop, refl, sym, ap, ap₂, ◌∙◌, subst, arith, append_assoc, append-nil, add-one, length-append}
-use Rattle.std.specs.Prelude.{sum_by, slice_index_or}
+use Rattle.std.proofs.Common.{◌≡◌, ℕ, zero, suc, ◌+◌, ◌<◌, List, [], ◌∷◌, ◌++◌, length, map, take, drop, refl, sym, ap, ap₂, ◌∙◌, subst, arith, append_assoc, append-nil, add-one, length-append}
+use Rattle.std.specs.Prelude.{slice_index_or}
 use Rattle.std.proofs.lemmas.List.{map-append, length-map}
 use Rattle.std.proofs.lemmas.List.Sums.{sum_by-cons}
 use Rattle.alg_model.specs.Lattices as lattices
@@ -16,7 +16,7 @@ use Rattle.lat_playing.specs.declared.players.Player.{Player}
 use Rattle.lat_playing.specs.declared.plays.Performance.{Performance}
 use Rattle.lat_playing.specs.Worlds.{SessionState, World, new_session, session_at, only_prologue, open_sessions, rest_from, rest, Runs, IsSolo}
 use Rattle.lat_playing.specs.Transcripts.{lines_text, blocks_text, sessions_text}
-use Rattle.lat_playing.specs.Plays.{Performs}
+use Rattle.lat_playing.specs.Plays.{Performs, PerformsPrologue}
 use Rattle.lat_playing.specs.PrivatePlays.{Shown, shown, shown_player, opened, Shows, left_counts, left_count, Advances, HasPrologue, HasSolo}
 use Rattle.lat_playing.specs.PrivateTranscripts.{player_blocks}
 
@@ -208,4 +208,33 @@ performs operations edition h script (q ∷ players) performance of_edition has_
   room = solo.room ∙ has_room;
   history = sym solo.shows.history;
   lines = lines q ∙ sessions_shown script solo.world performance.book (q ∷ players) q solo.shows (omega arith);
+}
+
+-- the text of the first player is that of the first session
+first_text : (sessions : List SessionState) (players : List Player) (p : Player)
+    → map shown sessions ≡ map shown_player players → 0 < length players
+    → (slice_index_or players 0 p).text.items ≡ lines_text (session_at sessions 0).lines
+first_text sessions [] p e some = absurd (omega (arith, some))
+first_text [] (q ∷ players) p e some = cc
+first_text (x ∷ sessions) (q ∷ players) p e some =
+    let here : shown x ≡ shown_player q = cc in
+    sym (ap (λ (y : Shown). y.text) here)
+
+-- **what was played of a prologue**
+pub performs_prologue : (operations : Operations) (edition : lattices.Edition) (h : History)
+    (script : Script) (players : List Player) (performance : Performance) → h.edition ≡ edition
+    → h.room ≡ length script.prologue + session_commands script.sessions
+    → HasPrologue operations h script.prologue performance.book players
+    → ((p : Player) → performance.lines.items
+    ≡ (slice_index_or players 0 p).text.items ++ player_blocks [] (drop 1 players))
+    → PerformsPrologue edition operations script performance
+performs_prologue operations edition h script [] performance of_edition has_room before lines = absurd (omega (arith, before.one))
+performs_prologue operations edition h script (q ∷ players) performance of_edition has_room before lines = record {
+  prologue = before.prologue;
+  played = subst (λ e. Runs e operations (rest (only_prologue script.prologue)) (only_prologue script.prologue) before.prologue) of_edition before.played;
+  of_edition = before.edition ∙ of_edition;
+  room = before.room ∙ has_room;
+  history = sym before.shows.history;
+  lines = lines q ∙ append-nil q.text.items
+      ∙ first_text before.prologue.sessions (q ∷ players) q before.shows.sessions (omega arith);
 }

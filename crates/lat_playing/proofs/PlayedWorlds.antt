@@ -1,6 +1,6 @@
 -- What players do is what happens in the world that they stand for.
 use Rattle.std.proofs.Common.{◌≡◌, ℕ, suc, ◌+◌, ◌<◌, ◌≤◌, ◌-◌, List, [], ◌∷◌, ◌++◌, length, map, take, set, replicate, refl, sym, ap, ◌∙◌, subst, arith, inl, inr, append-nil, append_assoc, get_or-set_same, get_or-set_other, set-set, take-suc, drop-drop, add-zero, add-one, drop}
-use Rattle.std.specs.Prelude.{pred, sum_by, All, flat_map, slice_index_or, Result, Ok, Err, OnOk}
+use Rattle.std.specs.Prelude.{pred, slice_index_or, Result, Ok, Err, OnOk}
 use Rattle.std.proofs.lemmas.Grind.{flat_map-append}
 use Rattle.std.proofs.lemmas.List.{replicate-append-replicate, map-append, get_or-drop, drop-set-lt, length-drop, length-take, map-set, get_or-map, get_or_past, set_past, length-map, length-set}
 use Rattle.std.proofs.lemmas.List.Sums.{sum_by-set}
@@ -8,17 +8,13 @@ use Rattle.std.proofs.Math.Seq.{map-set_same}
 use Rattle.std.proofs.lemmas.Bool.{cases_eq}
 use Rattle.alg_model.specs.Lattices as lattices
 use Rattle.lat_core.specs.declared.outcomes.Line.{Line}
-use Rattle.lat_language.specs.declared.commands.Command.{Command}
 use Rattle.lat_language.specs.Texts.{line_text}
-use Rattle.lat_session.specs.Commands.{IsProperCommand}
 use Rattle.lat_session.specs.Outcomes.{Operations}
 use Rattle.lat_history.specs.Books.{History}
-use Rattle.lat_history.specs.Passes.{Pass, IsPassOf}
 use Rattle.lat_playing.specs.declared.players.Player.{Player}
-use Rattle.lat_playing.specs.Worlds.{SessionState, World, new_session, session_at, rest_from, HasLine, PlaysNext, Happens, Runs}
+use Rattle.lat_playing.specs.Worlds.{SessionState, World, new_session, session_at, rest_from, HasLine, Happens, Runs}
 use Rattle.lat_playing.specs.Worlds.Happens.{nothing, plays}
-use Rattle.lat_playing.specs.Transcripts.{lines_text}
-use Rattle.lat_playing.specs.PrivatePlays.{IsSeated, Moves, Shown, shown, shown_player, Shows, IsReady, left_counts, left_count, AreReady, PlaysLine, Advances, HasPlayed}
+use Rattle.lat_playing.specs.PrivatePlays.{Shown, shown, shown_player, Shows, IsReady, left_counts, left_count, AreReady, PlaysLine, Advances, HasPlayed}
 use Rattle.lat_playing.specs.PrivatePlays.PlaysLine.{nothing as no_line, plays as next_line}
 
 -- ---- events, one after the other

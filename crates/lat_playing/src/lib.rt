@@ -13,4 +13,4 @@ pub use laws::{
     schedules_are_events, scripts_are_finished, scripts_have_one_transcript,
     scripts_have_transcripts,
 };
-pub use plays::{Performance, play_solo};
+pub use plays::{Performance, perform_prologue, play_solo};

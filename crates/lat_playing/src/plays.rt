@@ -2,10 +2,11 @@
 
 ghost use Rattle.std.specs.Prelude.{◌≡◌, [], ◌+◌, ◌≤◌, length, All, IfOk, OnOk};
 ghost use Rattle.lat_core.specs.Editions.{edition_of};
+ghost use Rattle.lat_history.specs.Books.{empty_history};
 ghost use Rattle.lat_session.specs.Commands.{IsProperCommand};
 ghost use Rattle.lat_session.specs.Outcomes.{operations_of};
 ghost use Rattle.lat_language.specs.Grammar.{session_commands};
-ghost use Rattle.lat_playing.specs.Plays.{IsPlayable, Performs};
+ghost use Rattle.lat_playing.specs.Plays.{IsPlayable, Performs, PerformsPrologue};
 ghost use Rattle.lat_playing.specs.PrivatePlays.{AreReady, HasPrologue, HasSolo};
 
 use crate::openings::{open_player, open_players};
@@ -81,6 +82,36 @@ fn play_all<'a, F: Operation, G: Operation, H: Operation>(
     Ok(players)
 }
 
+// A book with no entries and room for all commands of a script.
+fn open_book(alloc: Global, edition: Edition, script: &Script) -> Result<Book, NoMemory>
+    requires { length script.now.prologue + session_commands script.now.sessions ≤ MAX_ROOM }
+    ensures { IfOk result (λ book. book ≡ empty_history (edition_of edition)
+        (length script.now.prologue + session_commands script.now.sessions)) }
+{
+    let commands = script.prologue.items().len() + count_of(script.sessions.items());
+    Book::open(alloc, edition, commands as u32)
+}
+
+/// Plays the prologue of a script alone, over a book with room for all commands of the script.
+///
+/// A script is playable where each declared name is one, its commands are at most `MAX_ROOM`, and
+/// its sessions at most `MAX_SESSIONS`. Memory for the whole history is taken at the beginning.
+pub fn perform_prologue<F: Operation, G: Operation, H: Operation>(
+    alloc: Global,
+    edition: Edition,
+    script: &Script,
+    ops: &Ops<F, G, H>,
+) -> Result<Performance, NoMemory>
+    requires { IsPlayable script.now }
+    ensures { IfOk result (PerformsPrologue (edition_of edition)
+        (operations_of ops.now.first ops.now.second ops.now.third) script.now) }
+{
+    let mut book = open_book(alloc, edition, script)?;
+    let players = play_prologue(alloc, &mut book, script.prologue.items(), ops)?;
+    let lines = blocks(alloc, &[], &players)?;
+    Ok(Performance { book, lines })
+}
+
 /// Plays a script by its schedule: the prologue, then a command of the session at each place of the
 /// schedule, or nothing where it has none left, then all that is left, session after session.
 ///
@@ -96,8 +127,7 @@ pub fn play_solo<F: Operation, G: Operation, H: Operation>(
     ensures { IfOk result (Performs (edition_of edition)
         (operations_of ops.now.first ops.now.second ops.now.third) script.now) }
 {
-    let commands = script.prologue.items().len() + count_of(script.sessions.items());
-    let mut book = Book::open(alloc, edition, commands as u32)?;
+    let mut book = open_book(alloc, edition, script)?;
     let players = play_all(alloc, &mut book, script, ops)?;
     let lines = blocks(alloc, script.sessions.items(), &players)?;
     Ok(Performance { book, lines })

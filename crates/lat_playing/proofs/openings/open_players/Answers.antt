@@ -1,6 +1,5 @@
 -- One player more.
-use Rattle.std.proofs.Common.{rules, arith, ◌≡◌, ◌∙◌, ap, sym, subst, length, length-append, [], ◌∷◌}
-use Rattle.lat_core.specs.declared.replies.Entry.{Entry}
+use Rattle.std.proofs.Common.{arith, ◌≡◌, ◌∙◌, ap, subst, length, length-append, [], ◌∷◌}
 use Rattle.lat_playing.specs.Worlds.{new_session}
 use Rattle.lat_playing.specs.PrivatePlays.{shown, IsReady}
 use Rattle.lat_playing.proofs.OpenedPlayers.{more_shown, opened_ready_more, opened_room_more}

@@ -1,4 +1,4 @@
-use Rattle.std.proofs.Common.{◌≡◌, ◌-◌, ◌<◌, length, replicate, set, slice_index_or}
+use Rattle.std.proofs.Common.{◌≡◌, ◌-◌, replicate, set, slice_index_or}
 use Rattle.lat_session.specs.Outcomes.{operations_of}
 use Rattle.lat_playing.specs.PrivatePlays.{AreReady, left_counts, Advances}
 use Rattle.lat_playing.proofs.stages.play_out.Given as goal

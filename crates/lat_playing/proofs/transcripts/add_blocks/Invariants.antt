@@ -1,4 +1,4 @@
-use Rattle.std.proofs.Common.{◌≡◌, ◌+◌, ◌++◌, take, drop}
+use Rattle.std.proofs.Common.{◌≡◌, ◌++◌, take, drop}
 use Rattle.lat_playing.specs.PrivateTranscripts.{player_blocks}
 use Rattle.lat_playing.proofs.transcripts.add_blocks.Given as goal
 
