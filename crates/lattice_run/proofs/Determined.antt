@@ -1,5 +1,5 @@
 -- What words ask for and an input have at most one status.
-use Rattle.std.proofs.Common.{◌≡◌, ℕ, ◌<◌, ◌≤◌, List, length, refl, ◌∙◌, sym, ap, subst, arith, Option, Some, None}
+use Rattle.std.proofs.Common.{◌≡◌, Bool, ℕ, ◌<◌, ◌≤◌, List, length, refl, ◌∙◌, sym, ap, subst, arith, Option, Some, None}
 use Rattle.std.specs.Prelude.{IfSome}
 use Rattle.lat_language.specs.declared.scripts.Script.{Script}
 use Rattle.lat_language.specs.Grammar.{Spells, FirstBad}
@@ -34,18 +34,18 @@ plays_fits (Some (Play o)) n p fits = fits
 plays_fits (Some (Gen s f m)) n p fits = absurd p
 
 -- and its output is that of a script that the input spells
-pub plays_script : (operations : Operations) (asked : Option Task) (task : Task)
+pub plays_script : (threads : Bool) (operations : Operations) (asked : Option Task) (task : Task)
     (input text : List ℕ) → PlaysInput asked → asked ≡ Some task
-    → IsOutput operations task input text → (script : Script) × Spells input script
-plays_script operations asked (Play wanted) input text p e o = (o.0, o.1)
-plays_script operations asked (Gen s f m) input text p e o = absurd (subst PlaysInput e p)
+    → IsOutput threads operations task input text → (script : Script) × Spells input script
+plays_script threads operations asked (Play wanted) input text p e o = (o.0, o.1)
+plays_script threads operations asked (Gen s f m) input text p e o = absurd (subst PlaysInput e p)
 
 -- a bad line and an output exclude each other,
-pub bad_output : (operations : Operations) (asked : Option Task) (input : List ℕ) (line kind : ℕ)
-    (task : Task) (text : List ℕ) → PlaysInput asked → asked ≡ Some task
-    → FirstBad input line kind → IsOutput operations task input text → ⊥
-bad_output operations asked input line kind task text p is b o =
-    let played = plays_script operations asked task input text p is o in
+pub bad_output : (threads : Bool) (operations : Operations) (asked : Option Task)
+    (input : List ℕ) (line kind : ℕ) (task : Task) (text : List ℕ) → PlaysInput asked → asked ≡ Some task
+    → FirstBad input line kind → IsOutput threads operations task input text → ⊥
+bad_output threads operations asked input line kind task text p is b o =
+    let played = plays_script threads operations asked task input text p is o in
     never_both input played.0 line kind played.1 b
 
 -- and so do an input that is too long and an output
@@ -53,10 +53,10 @@ pub long_output : (asked : Option Task) (n : ℕ) → PlaysInput asked → MAX_I
     → IfSome (limit asked) (λ most. n ≤ most) → ⊥
 long_output asked n p l fits = let within = plays_fits asked n p fits in omega (arith, l)
 
--- **what is asked for and an input have at most one status**
-module _ {operations : Operations} {asked : Option Task} {input : List ℕ} where
-  pub status_unique : {s t : ℕ} {text other : List ℕ} → Answers operations asked input s text
-      → Answers operations asked input t other → s ≡ t
+-- **what is asked for and an input have at most one status**, with threads and without
+module _ {threads beside : Bool} {operations : Operations} {asked : Option Task} {input : List ℕ} where
+  pub status_unique : {s t : ℕ} {text other : List ℕ} → Answers threads operations asked input s text
+      → Answers beside operations asked input t other → s ≡ t
   status_unique (usage e) (usage f) = refl
   status_unique (usage e) (too_long p l) = absurd (plays_asked asked p e)
   status_unique (usage e) (bad_line p f line kind b) = absurd (plays_asked asked p e)
@@ -68,25 +68,26 @@ module _ {operations : Operations} {asked : Option Task} {input : List ℕ} wher
   status_unique (bad_line p f line kind b) (usage e) = absurd (plays_asked asked p e)
   status_unique (bad_line p f line kind b) (too_long q l) = refl
   status_unique (bad_line p f line kind b) (bad_line q g line' kind' b') = refl
-  status_unique (bad_line p f line kind b) (output task text is g o) = absurd (bad_output operations asked input line kind task text p is b o)
+  status_unique (bad_line p f line kind b) (output task text is g o) = absurd (bad_output beside operations asked input line kind task text p is b o)
   status_unique (output task text is f o) (usage e) = absurd (output_asked asked task is e)
   status_unique (output task text is f o) (too_long p l) = absurd (long_output asked (length input) p l f)
-  status_unique (output task text is f o) (bad_line p g line kind b) = absurd (bad_output operations asked input line kind task text p is b o)
+  status_unique (output task text is f o) (bad_line p g line kind b) = absurd (bad_output threads operations asked input line kind task text p is b o)
   status_unique (output task text is f o) (output task' text' is' f' o') = refl
 
 -- ---- where nothing is read the input doesn't count
-unread_output : (operations : Operations) (asked : Option Task) (task : Task)
+unread_output : (threads : Bool) (operations : Operations) (asked : Option Task) (task : Task)
     (input other text : List ℕ) → limit asked ≡ None → asked ≡ Some task
-    → IsOutput operations task input text → IsOutput operations task other text
-unread_output operations asked (Play wanted) input other text none is o =
+    → IsOutput threads operations task input text → IsOutput threads operations task other text
+unread_output threads operations asked (Play wanted) input other text none is o =
     absurd (plays_limit asked (subst PlaysInput (sym is) tt) none)
-unread_output operations asked (Gen s f m) input other text none is o = o
+unread_output threads operations asked (Gen s f m) input other text none is o = o
 
-pub unread_answer : {operations : Operations} {asked : Option Task} {input : List ℕ}
-    (other : List ℕ) {status : ℕ} {text : List ℕ} → limit asked ≡ None
-    → Answers operations asked input status text → Answers operations asked other status text
+pub unread_answer : {threads : Bool} {operations : Operations} {asked : Option Task}
+    {input : List ℕ} (other : List ℕ) {status : ℕ} {text : List ℕ} → limit asked ≡ None
+    → Answers threads operations asked input status text
+    → Answers threads operations asked other status text
 unread_answer other none (usage e) = usage e
 unread_answer {asked = asked} other none (too_long p l) = absurd (plays_limit asked p none)
 unread_answer {asked = asked} other none (bad_line p f line kind b) = absurd (plays_limit asked p none)
-unread_answer {operations = operations} {asked = asked} {input = input} other none (output task text is f o) =
-    output task text is (subst (λ most. IfSome most (λ m. length other ≤ m)) (sym none) tt) (unread_output operations asked task input other text none is o)
+unread_answer {threads = threads} {operations = operations} {asked = asked} {input = input} other none (output task text is f o) =
+    output task text is (subst (λ most. IfSome most (λ m. length other ≤ m)) (sym none) tt) (unread_output threads operations asked task input other text none is o)

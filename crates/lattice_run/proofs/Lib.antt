@@ -5,3 +5,4 @@ pub mod Running
 pub mod Statuses
 pub mod Determined
 pub mod Answered
+pub mod Threaded

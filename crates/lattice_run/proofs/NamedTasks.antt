@@ -10,7 +10,7 @@ use Rattle.lat_gen.specs.Theorems.{AreSizes}
 use Rattle.lat_language.specs.PrivateDecisions.{decide_number}
 use Rattle.lattice_run.specs.declared.tasks.Task.{Task}
 use Rattle.lattice_run.specs.declared.tasks.Output.{Output}
-use Rattle.lattice_run.specs.declared.tasks.Output.TheVariants.{Transcript, Dump}
+use Rattle.lattice_run.specs.declared.tasks.Output.TheVariants.{Transcript, SharedTranscript, Dump}
 use Rattle.lattice_run.specs.declared.tasks.Task.TheVariants.{Play, Gen}
 use Rattle.lattice_run.specs.Tasks.{word_of, IsTask, Asks}
 use Rattle.lattice_run.specs.Theorems.{WordsAsk, WordsAskOnce}
@@ -46,22 +46,29 @@ pub word_named : (a : List ℕ) (output : Output) → a ≡ word_of output
     → Asks (a ∷ []) (Some (Play output))
 word_named a output e = (ap (λ t. t ∷ []) e, tt)
 
-pub other_word : (a : List ℕ) → (a ≡ codes "solo" → ⊥) → (a ≡ codes "dump" → ⊥)
-    → Asks (a ∷ []) None
-other_word a solo dump (Play Transcript) named = solo (head_same named.0)
-other_word a solo dump (Play Dump) named = dump (head_same named.0)
-other_word a solo dump (Gen s f e) named = let l = ap length named.0 in omega arith
+pub other_word : (a : List ℕ) → (a ≡ codes "solo" → ⊥) → (a ≡ codes "share" → ⊥)
+    → (a ≡ codes "dump" → ⊥) → Asks (a ∷ []) None
+other_word a solo share dump (Play Transcript) named = solo (head_same named.0)
+other_word a solo share dump (Play SharedTranscript) named = share (head_same named.0)
+other_word a solo share dump (Play Dump) named = dump (head_same named.0)
+other_word a solo share dump (Gen s f e) named = let l = ap length named.0 in omega arith
 
 heads_differ : (x y : ℕ) (xs ys : List ℕ) → x < y → x ∷ xs ≡ y ∷ ys → ⊥
 heads_differ x y xs ys l e = let same : x ≡ y = cc in omega (arith, l)
 
+solo_dump : codes "solo" ≡ codes "dump" → ⊥
+solo_dump e = heads_differ 100 115 (117 ∷ 109 ∷ 112 ∷ []) (111 ∷ 108 ∷ 111 ∷ []) (lit< tt) (sym e)
+
 -- the words differ
 same_output : (o p : Output) → word_of o ≡ word_of p → o ≡ p
 same_output Transcript Transcript e = refl
-same_output Transcript Dump e =
-    absurd (heads_differ 100 115 (117 ∷ 109 ∷ 112 ∷ []) (111 ∷ 108 ∷ 111 ∷ []) (lit< tt) (sym e))
-same_output Dump Transcript e =
-    absurd (heads_differ 100 115 (117 ∷ 109 ∷ 112 ∷ []) (111 ∷ 108 ∷ 111 ∷ []) (lit< tt) e)
+same_output Transcript SharedTranscript e = let l = ap length e in absurd (omega arith)
+same_output Transcript Dump e = absurd (solo_dump e)
+same_output SharedTranscript Transcript e = let l = ap length e in absurd (omega arith)
+same_output SharedTranscript SharedTranscript e = refl
+same_output SharedTranscript Dump e = let l = ap length e in absurd (omega arith)
+same_output Dump Transcript e = absurd (solo_dump (sym e))
+same_output Dump SharedTranscript e = let l = ap length e in absurd (omega arith)
 same_output Dump Dump e = refl
 
 -- ---- four words
@@ -153,9 +160,12 @@ one_asked : (a : List ℕ) → Asked (a ∷ [])
 unfolding Asked
 one_asked a = elim (same_or_not a (codes "solo")) [
   | inl e ↦ (Some (Play Transcript), word_named a Transcript e)
-  | inr solo ↦ elim (same_or_not a (codes "dump")) [
-    | inl e ↦ (Some (Play Dump), word_named a Dump e)
-    | inr dump ↦ (None, other_word a solo dump)
+  | inr solo ↦ elim (same_or_not a (codes "share")) [
+    | inl e ↦ (Some (Play SharedTranscript), word_named a SharedTranscript e)
+    | inr share ↦ elim (same_or_not a (codes "dump")) [
+      | inl e ↦ (Some (Play Dump), word_named a Dump e)
+      | inr dump ↦ (None, other_word a solo share dump)
+    ]
   ]
 ]
 

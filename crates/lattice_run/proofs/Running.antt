@@ -1,5 +1,6 @@
 -- From the parts of a run to its answer.
-use Rattle.std.proofs.Common.{◌≡◌, ℕ, ◌+◌, ◌≤◌, ◌<◌, List, [], length, drop, replicate, refl, ◌∙◌, sym, ap, subst, arith, Option, Some, None, inl, inr}
+use Rattle.std.proofs.Common.{◌≡◌, Bool, false, ℕ, ◌+◌, ◌≤◌, ◌<◌, List, [], length, drop, replicate, refl, ◌∙◌, sym, ap, subst, arith, Option, Some, None, inl, inr}
+use Rattle.std.specs.Prelude.{Result, Ok, Err, IfOk, MatchResult}
 use Rattle.std.proofs.Math.ListN.{drop_of_length-le}
 use Rattle.std.proofs.lemmas.List.{length-replicate}
 use Rattle.lat_io.specs.declared.faults.ReadFault.{ReadFault}
@@ -13,6 +14,7 @@ use Rattle.lat_language.specs.Texts.{usage_text, bad_line_text, too_long_text}
 use Rattle.alg_model.specs.Lattices.{first_edition}
 use Rattle.lat_gen.specs.Generated.{generated}
 use Rattle.lat_session.specs.Outcomes.{Operations}
+use Rattle.lat_playing.specs.Plays.{IsPlayable}
 use Rattle.lattice_run.specs.declared.run.TheConstants.{MAX_INPUT}
 use Rattle.lattice_run.specs.declared.status.TheConstants.{DONE, NO_COMMAND, BAD_SCRIPT, NO_MEMORY}
 use Rattle.lattice_run.specs.declared.tasks.Task.{Task}
@@ -21,9 +23,10 @@ use Rattle.lattice_run.specs.declared.tasks.Task.TheVariants.{Play, Gen}
 use Rattle.lattice_run.specs.Tasks.{limit}
 use Rattle.lattice_run.specs.Answers.{IsSummary, IsPlayed, IsInput, TakesInput}
 use Rattle.lattice_run.specs.Answers.Answers.{usage, too_long, bad_line, output}
-use Rattle.lattice_run.specs.PrivateRuns.{Delivers, NeedsMemory, AnswersInput, Ran}
+use Rattle.lattice_run.specs.PrivateRuns.{Delivers, DeliversOutput, NeedsMemory, AnswersInput, ReadsScript, Ran}
 use Rattle.lattice_run.specs.PrivateRuns.AnswersInput.{answered, unanswered}
 use Rattle.lattice_run.specs.PrivateRuns.Ran.{delivered, no_memory}
+use Rattle.lattice_run.proofs.PlayableScripts.{spelled_playable}
 
 -- ---- the input
 -- nothing stands past the end
@@ -86,14 +89,14 @@ needs_not_empty : (input : List ℕ) → NeedsMemory input → 0 < length input
 needs_not_empty input (inl leads) = leading_not_empty input leads
 needs_not_empty input (inr (script, spelled)) = spelled_not_empty input script spelled
 
--- ---- the run
+-- ---- the answer to an input that is no script
 module _ {operations : Operations} (wanted : Output) (source source' sink sink' : Stream)
     (result : ℕ) where
   -- an answer to the input, or want of memory for it, is a way out of the run
-  pub ran_input : (input : List ℕ) → source'.faults ≡ source.faults → length input ≤ MAX_INPUT
+  ran_input : (input : List ℕ) → source'.faults ≡ source.faults → length input ≤ MAX_INPUT
       → ReadWhole source.bytes source'.bytes input
       → AnswersInput operations wanted input sink sink' result
-      → Ran operations (Some (Play wanted)) source source' sink sink' result
+      → Ran false operations (Some (Play wanted)) source source' sink sink' result
   ran_input input u fits h (answered status text a d) =
       delivered input status text u (whole_input source.bytes source'.bytes input fits h) a d
   ran_input input u fits h (unanswered needs e k) =
@@ -103,53 +106,81 @@ module _ {operations : Operations} (wanted : Output) (source source' sink sink' 
   pub ran_too_long : (text : List ℕ) → source'.faults ≡ source.faults
       → TakesFront source.bytes source'.bytes (MAX_INPUT + 1) → text ≡ too_long_text MAX_INPUT
       → Delivers BAD_SCRIPT text sink sink' result
-      → Ran operations (Some (Play wanted)) source source' sink sink' result
+      → Ran false operations (Some (Play wanted)) source source' sink sink' result
   ran_too_long text u taken is d =
       let (input, long, whole) = long_input source.bytes source'.bytes taken in
       delivered input BAD_SCRIPT (too_long_text MAX_INPUT) u whole (too_long tt long) (subst (λ t. Delivers BAD_SCRIPT t sink sink' result) is d)
 
-module _ {operations : Operations} (wanted : Output) (input : List ℕ) (sink sink' : Stream)
+-- the line for a first fault answers the input
+pub answered_bad : {operations : Operations} (wanted : Output) (input : List ℕ)
+    (sink sink' : Stream) (result line kind : ℕ) (text : List ℕ) → length input ≤ MAX_INPUT
+    → FirstBad input line kind → text ≡ bad_line_text line kind
+    → Delivers BAD_SCRIPT text sink sink' result → AnswersInput operations wanted input sink sink' result
+answered_bad wanted input sink sink' result line kind text fits bad is d =
+    answered BAD_SCRIPT (bad_line_text line kind) (bad_line tt fits line kind bad) (subst (λ t. Delivers BAD_SCRIPT t sink sink' result) is d)
+
+-- ---- the script that was read, or the status
+module _ (source source' sink sink' : Stream) (input : List ℕ) where
+  pub read_is : (result : Result Script ℕ) → source'.faults ≡ source.faults
+      → length input ≤ MAX_INPUT → ReadWhole source.bytes source'.bytes input
+      → MatchResult result (λ script. Spells input script × (sink' ≡ sink))
+      (λ status. (operations : Operations) (wanted : Output)
+      → AnswersInput operations wanted input sink sink' status)
+      → MatchResult result (λ script. ReadsScript script source source' × (sink' ≡ sink))
+      (λ status. (operations : Operations) (wanted : Output)
+      → Ran false operations (Some (Play wanted)) source source' sink sink' status)
+  read_is (Ok script) u fits h (spelled, k) =
+      (record { input = input; fits = fits; whole = h; spelled = spelled; unfailed = u }, k)
+  read_is (Err status) u fits h a = λ operations wanted.
+      ran_input wanted source source' sink sink' status input u fits h (a operations wanted)
+
+-- what was read can be played
+pub read_playable : {source source' : Stream} (script : Script) → ReadsScript script source source'
+    → IsPlayable script
+read_playable script r = spelled_playable r.input script r.spelled
+
+-- ---- the output of a task
+module _ {threads : Bool} {operations : Operations} (source source' sink sink' : Stream)
     (result : ℕ) where
-  -- the line for a first fault answers the input
-  pub answered_bad : (line kind : ℕ) (text : List ℕ) → length input ≤ MAX_INPUT
-      → FirstBad input line kind → text ≡ bad_line_text line kind
-      → Delivers BAD_SCRIPT text sink sink' result → AnswersInput operations wanted input sink sink' result
-  answered_bad line kind text fits bad is d =
-      answered BAD_SCRIPT (bad_line_text line kind) (bad_line tt fits line kind bad) (subst (λ t. Delivers BAD_SCRIPT t sink sink' result) is d)
+  -- what is written of the script that was read, or want of memory for it
+  pub ran_output : {V E : Type 0} (items : V → List ℕ) (written : Result V E) (wanted : Output)
+      (middle : Stream) (script : Script) → ReadsScript script source source' → middle ≡ sink
+      → IfOk written (λ text. IsPlayed threads operations wanted script (items text))
+      → DeliversOutput items written middle sink' result
+      → Ran threads operations (Some (Play wanted)) source source' sink sink' result
+  ran_output items (Ok text) wanted middle script r same played d =
+      delivered r.input DONE (items text) r.unfailed (whole_input source.bytes source'.bytes r.input r.fits r.whole)
+      (output (Play wanted) (items text) refl r.fits (script, r.spelled, played))
+      (subst (λ s. Delivers DONE (items text) s sink' result) same d)
+  ran_output items (Err e) wanted middle script r same played (refused, kept) =
+      no_memory (λ z. cc)
+      (some_taken source.bytes source'.bytes r.input (spelled_not_empty r.input script r.spelled) r.fits r.whole)
+      refused r.unfailed (kept ∙ same)
 
-  -- what is wanted of the script answers it
-  pub answered_played : (script : Script) (text : List ℕ) → length input ≤ MAX_INPUT
-      → Spells input script → IsPlayed operations wanted script text
-      → Delivers DONE text sink sink' result → AnswersInput operations wanted input sink sink' result
-  answered_played script text fits spelled plays d =
-      answered DONE text (output (Play wanted) text refl fits (script, spelled, plays)) d
+  -- the summary of a generated script, or want of memory for it
+  pub ran_summary : {V E : Type 0} (items : V → List ℕ) (written : Result V E)
+      (seed fields embeds : ℕ) → IfOk written (λ text.
+      IsSummary first_edition operations (generated seed fields embeds) (items text))
+      → DeliversOutput items written sink sink' result
+      → Ran threads operations (Some (Gen seed fields embeds)) source source sink sink' result
+  ran_summary items (Ok text) seed fields embeds summary d =
+      let (input, unread) = unread_input source.bytes in
+      delivered input DONE (items text) refl unread (output (Gen seed fields embeds) (items text) refl tt summary) d
+  ran_summary items (Err e) seed fields embeds summary (refused, kept) =
+      no_memory (λ z. cc) tt refused refl kept
 
-module _ {operations : Operations} (source sink sink' : Stream) (result : ℕ) where
+module _ {threads : Bool} {operations : Operations} (source sink sink' : Stream) (result : ℕ) where
   -- the usage line answers other words
   pub ran_usage : (text : List ℕ) → text ≡ usage_text → Delivers NO_COMMAND text sink sink' result
-      → Ran operations None source source sink sink' result
+      → Ran threads operations None source source sink sink' result
   ran_usage text is d =
       let (input, unread) = unread_input source.bytes in
       delivered input NO_COMMAND usage_text refl unread (usage refl) (subst (λ t. Delivers NO_COMMAND t sink sink' result) is d)
 
-  -- the summary of a generated script
-  pub ran_summary : (seed fields embeds : ℕ) (text : List ℕ)
-      → IsSummary first_edition operations (generated seed fields embeds) text
-      → Delivers DONE text sink sink' result
-      → Ran operations (Some (Gen seed fields embeds)) source source sink sink' result
-  ran_summary seed fields embeds text summary d =
-      let (input, unread) = unread_input source.bytes in
-      delivered input DONE text refl unread (output (Gen seed fields embeds) text refl tt summary) d
-
-  -- or no memory for it
-  pub ran_no_summary : (seed fields embeds : ℕ) → result ≡ NO_MEMORY → sink' ≡ sink
-      → Ran operations (Some (Gen seed fields embeds)) source source sink sink' result
-  ran_no_summary seed fields embeds e k = no_memory (λ z. cc) tt e refl k
-
 -- what is asked for, from its case
-pub ran_for : {operations : Operations} (asked other : Option Task)
+pub ran_for : {threads : Bool} {operations : Operations} (asked other : Option Task)
     (source source' sink sink' : Stream) (result : ℕ) → asked ≡ other
-    → Ran operations other source source' sink sink' result
-    → Ran operations asked source source' sink sink' result
-ran_for {operations} asked other source source' sink sink' result is ran =
-    subst (λ a. Ran operations a source source' sink sink' result) (sym is) ran
+    → Ran threads operations other source source' sink sink' result
+    → Ran threads operations asked source source' sink sink' result
+ran_for {threads} {operations} asked other source source' sink sink' result is ran =
+    subst (λ a. Ran threads operations a source source' sink sink' result) (sym is) ran

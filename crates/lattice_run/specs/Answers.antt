@@ -1,14 +1,16 @@
--- What the program answers to what it is asked for and to its input.
+-- What the program answers to what it is asked for and to its input. `threads` says whether the
+-- sessions of `share` are played on threads.
 --     Final edition operations script                the end of a script that is played
 --     IsSummary edition operations script text       its summary alone
 --     IsDump edition operations script text          the dump of its lattice
---     IsPlayed operations output script text         what is written of a script that is played
---     IsOutput operations task input text            what is written for a task that is done
---     Answers operations asked input status text     the exit status, and what is written
+--     IsShared threads operations script text        what is written for `share`
+--     IsPlayed threads operations output script text     what is written of a script that is played
+--     IsOutput threads operations task input text        what is written for a task that is done
+--     Answers threads operations asked input status text     the exit status, and what is written
 --     rest_of most input          what is left of an input that is read up to a limit
 --     IsInput most input old new  what a source gave of its bytes, from `old` to `new`
 --     TakesInput most old new     how much is taken at most, whatever the status
-use Rattle.std.specs.Prelude.{◌≡◌, ℕ, ◌+◌, ◌<◌, ◌≤◌, List, length, drop, Option, Some, None, IfSome}
+use Rattle.std.specs.Prelude.{◌≡◌, Bool, true, false, ℕ, ◌+◌, ◌<◌, ◌≤◌, List, length, drop, Option, Some, None, IfSome}
 use Rattle.alg_model.specs.Lattices as lattices
 use Rattle.alg_model.specs.Lattices.{Lattice, first_edition}
 use Rattle.lat_io.specs.Source.{TakesAtMost}
@@ -21,12 +23,12 @@ use Rattle.lat_gen.specs.Generated.{generated}
 use Rattle.lat_audit.specs.Dumps.{dump_text}
 use Rattle.lat_session.specs.Outcomes.{Operations}
 use Rattle.lat_playing.specs.Worlds.{World, IsSolo}
-use Rattle.lat_playing.specs.Transcripts.{IsTranscript}
+use Rattle.lat_playing.specs.Transcripts.{IsTranscript, IsFair}
 use Rattle.lattice_run.specs.declared.run.TheConstants.{MAX_INPUT}
 use Rattle.lattice_run.specs.declared.status.TheConstants.{DONE, NO_COMMAND, BAD_SCRIPT}
 use Rattle.lattice_run.specs.declared.tasks.Task.{Task}
 use Rattle.lattice_run.specs.declared.tasks.Output.{Output}
-use Rattle.lattice_run.specs.declared.tasks.Output.TheVariants.{Transcript, Dump}
+use Rattle.lattice_run.specs.declared.tasks.Output.TheVariants.{Transcript, SharedTranscript, Dump}
 use Rattle.lattice_run.specs.declared.tasks.Task.TheVariants.{Play, Gen}
 use Rattle.lattice_run.specs.Tasks.{PlaysInput, limit}
 
@@ -49,30 +51,39 @@ abbrev pub IsDump : lattices.Edition → Operations → Script → List ℕ → 
 IsDump edition operations script text = (final : Final edition operations script)
     × (text ≡ dump_text final.lattice)
 
+-- With threads, the transcript of the sessions in some order, and without them, by the schedule.
+abbrev pub IsShared : Bool → Operations → Script → List ℕ → Type 0
+IsShared true operations script text = IsFair first_edition operations script text
+IsShared false operations script text = IsTranscript first_edition operations script text
+
 -- What is written of a script that is played.
-abbrev pub IsPlayed : Operations → Output → Script → List ℕ → Type 0
-IsPlayed operations Transcript script text = IsTranscript first_edition operations script text
-IsPlayed operations Dump script text = IsDump first_edition operations script text
+abbrev pub IsPlayed : Bool → Operations → Output → Script → List ℕ → Type 0
+IsPlayed threads operations Transcript script text =
+    IsTranscript first_edition operations script text
+IsPlayed threads operations SharedTranscript script text =
+    IsShared threads operations script text
+IsPlayed threads operations Dump script text = IsDump first_edition operations script text
 
 -- Of the script that the input spells, or the summary alone of a generated script.
-abbrev pub IsOutput : Operations → Task → List ℕ → List ℕ → Type 0
-IsOutput operations (Play output) input text = (script : Script) × Spells input script
-    × IsPlayed operations output script text
-IsOutput operations (Gen seed fields embeds) input text =
+abbrev pub IsOutput : Bool → Operations → Task → List ℕ → List ℕ → Type 0
+IsOutput threads operations (Play output) input text = (script : Script) × Spells input script
+    × IsPlayed threads operations output script text
+IsOutput threads operations (Gen seed fields embeds) input text =
     IsSummary first_edition operations (generated seed fields embeds) text
 
 -- One constructor for each kind of answer.
-pub data Answers (operations : Operations) (asked : Option Task) (input : List ℕ)
-    : ℕ → List ℕ → Type 0 where
-  usage : asked ≡ None → Answers operations asked input NO_COMMAND usage_text
+pub data Answers (threads : Bool) (operations : Operations) (asked : Option Task)
+    (input : List ℕ) : ℕ → List ℕ → Type 0 where
+  usage : asked ≡ None → Answers threads operations asked input NO_COMMAND usage_text
   too_long : PlaysInput asked → MAX_INPUT < length input
-      → Answers operations asked input BAD_SCRIPT (too_long_text MAX_INPUT)
+      → Answers threads operations asked input BAD_SCRIPT (too_long_text MAX_INPUT)
   bad_line : PlaysInput asked → length input ≤ MAX_INPUT → (line kind : ℕ)
       → FirstBad input line kind
-      → Answers operations asked input BAD_SCRIPT (bad_line_text line kind)
+      → Answers threads operations asked input BAD_SCRIPT (bad_line_text line kind)
   output : (task : Task) (text : List ℕ) → asked ≡ Some task
-      → IfSome (limit asked) (λ most. length input ≤ most) → IsOutput operations task input text
-      → Answers operations asked input DONE text
+      → IfSome (limit asked) (λ most. length input ≤ most)
+      → IsOutput threads operations task input text
+      → Answers threads operations asked input DONE text
 
 -- Where there is no limit nothing is read, and else at most the limit and one byte more.
 abbrev pub rest_of : Option ℕ → List ℕ → List ℕ

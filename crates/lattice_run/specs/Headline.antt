@@ -1,7 +1,8 @@
 -- The headline: what a run of the program does, from its words, its source and its sink, and the
--- three operations that it was given. A source and a sink are their bytes, where they tell them,
--- and their counts of faults (`Stream`); with a prime they are those after the run.
-use Rattle.std.specs.Prelude.{◌≡◌, ◌≢◌, ◌⊎◌, ℕ, List, [], ◌∷◌, Contains, Option, Some, None, IfSome}
+-- three operations that it was given; `threads` says whether it plays the sessions of `share` on
+-- threads. A source and a sink are their bytes, where they tell them, and their counts of faults
+-- (`Stream`); with a prime they are those after the run.
+use Rattle.std.specs.Prelude.{◌≡◌, ◌≢◌, ◌⊎◌, Bool, ℕ, List, [], ◌∷◌, Contains, Option, Some, None, IfSome}
 use Rattle.std.specs.Io.KnownBytes.{Keeps, Appends}
 use Rattle.lat_io.specs.Faults.{one_more, Rose}
 use Rattle.lat_io.specs.Sink.{AppendsPart}
@@ -13,7 +14,7 @@ use Rattle.lattice_run.specs.declared.tasks.Task.{Task}
 use Rattle.lattice_run.specs.Tasks.{Asks, limit}
 use Rattle.lattice_run.specs.Answers.{IsOutput, Answers, IsInput, TakesInput}
 
-pub record Headline (operations : Operations) (words : List (List ℕ))
+pub record Headline (threads : Bool) (operations : Operations) (words : List (List ℕ))
     (source source' sink sink' : Stream) (status : ℕ) : Type 0 where
   -- What the words ask for: the one task that they name, or none.
   pub asked : Option Task
@@ -22,13 +23,13 @@ pub record Headline (operations : Operations) (words : List (List ℕ))
   -- written for the task was appended.
   pub done : status ≡ DONE → (task : Task) × (input : List ℕ) × (text : List ℕ)
       × (asked ≡ Some task) × IfSome (limit asked) (λ most.
-      ReadWhole source.bytes source'.bytes input) × IsOutput operations task input text
+      ReadWhole source.bytes source'.bytes input) × IsOutput threads operations task input text
       × Appends sink.bytes sink'.bytes text
   -- Statuses 0, 2 and 3: the answer that is due, and its text was appended.
   pub answered : Contains (DONE ∷ NO_COMMAND ∷ BAD_SCRIPT ∷ []) status
       → (input : List ℕ) × (text : List ℕ)
       × IsInput (limit asked) input source.bytes source'.bytes
-      × Answers operations asked input status text × Appends sink.bytes sink'.bytes text
+      × Answers threads operations asked input status text × Appends sink.bytes sink'.bytes text
   -- Status 4: what is asked for reads, a read failed, and nothing was appended.
   pub read_failed : status ≡ READ_FAILED → (limit asked ≢ None)
       × (source'.faults ≡ one_more source.faults) × Keeps sink.bytes sink'.bytes
@@ -37,7 +38,7 @@ pub record Headline (operations : Operations) (words : List (List ℕ))
   pub write_failed : status ≡ WRITE_FAILED → (sink'.faults ≡ one_more sink.faults)
       × (input : List ℕ) × (answer : ℕ) × (text : List ℕ)
       × IsInput (limit asked) input source.bytes source'.bytes
-      × Answers operations asked input answer text × AppendsPart sink.bytes sink'.bytes text
+      × Answers threads operations asked input answer text × AppendsPart sink.bytes sink'.bytes text
   -- Status 6: a task is asked for; where it reads, at least one byte of the source was taken, and
   -- at most the limit; and nothing was appended.
   pub no_memory : status ≡ NO_MEMORY → (asked ≢ None)
@@ -60,4 +61,4 @@ pub record Headline (operations : Operations) (words : List (List ℕ))
   pub complete : ¬ Rose source.faults source'.faults → ¬ Rose sink.faults sink'.faults
       → (input : List ℕ) (answer : ℕ) (text : List ℕ)
       → (source.bytes ≡ Some input) ⊎ (limit asked ≡ None)
-      → Answers operations asked input answer text → (status ≡ answer) ⊎ (status ≡ NO_MEMORY)
+      → Answers threads operations asked input answer text → (status ≡ answer) ⊎ (status ≡ NO_MEMORY)

@@ -11,11 +11,12 @@ use Rattle.lat_gen.specs.Theorems.{AreSizes}
 use Rattle.lattice_run.specs.declared.run.TheConstants.{MAX_INPUT}
 use Rattle.lattice_run.specs.declared.tasks.Task.{Task}
 use Rattle.lattice_run.specs.declared.tasks.Output.{Output}
-use Rattle.lattice_run.specs.declared.tasks.Output.TheVariants.{Transcript, Dump}
+use Rattle.lattice_run.specs.declared.tasks.Output.TheVariants.{Transcript, SharedTranscript, Dump}
 use Rattle.lattice_run.specs.declared.tasks.Task.TheVariants.{Play, Gen}
 
 abbrev pub word_of : Output → List ℕ
 word_of Transcript = codes "solo"
+word_of SharedTranscript = codes "share"
 word_of Dump = codes "dump"
 
 -- Numbers are written in decimal, without zeros before them.

@@ -1,5 +1,5 @@
 -- The statements of the laws: what holds of the definitions, whatever the program does.
-use Rattle.std.specs.Prelude.{◌≡◌, ℕ, List, Option}
+use Rattle.std.specs.Prelude.{◌≡◌, Bool, true, false, ℕ, List, Option}
 use Rattle.ff_poly.specs.Polynomial.{Polynomial}
 use Rattle.natural_ops.specs.Operations.{IsOpTable}
 use Rattle.lat_session.specs.Outcomes.{Operations, operations_of}
@@ -23,23 +23,30 @@ WordsAskOnce = (words : List (List ℕ)) (asked other : Option Task) → Asks wo
     → Asks words other → asked ≡ other
 
 -- With operations of tables, what words ask for and an input have an answer, its status and its
--- text.
+-- text, with threads and without.
 abbrev pub InputHasAnswer : Type 0
-InputHasAnswer = (first second third : List Polynomial) (words : List (List ℕ))
-    (asked : Option Task) (input : List ℕ) → IsOpTable first → IsOpTable second
+InputHasAnswer = (threads : Bool) (first second third : List Polynomial)
+    (words : List (List ℕ)) (asked : Option Task) (input : List ℕ) → IsOpTable first → IsOpTable second
     → IsOpTable third → Asks words asked → (status : ℕ) × (text : List ℕ)
-    × Answers (operations_of first second third) asked input status text
+    × Answers threads (operations_of first second third) asked input status text
 
--- And only one.
+-- Without threads there is only one.
 abbrev pub InputHasOneAnswer : Type 0
 InputHasOneAnswer = (first second third : List Polynomial) (words : List (List ℕ))
     (asked : Option Task) (input : List ℕ) (s t : ℕ) (text other : List ℕ) → IsOpTable first
     → IsOpTable second → IsOpTable third → Asks words asked
-    → Answers (operations_of first second third) asked input s text
-    → Answers (operations_of first second third) asked input t other → (s ≡ t) × (text ≡ other)
+    → Answers false (operations_of first second third) asked input s text
+    → Answers false (operations_of first second third) asked input t other → (s ≡ t) × (text ≡ other)
 
--- Whatever the operations, they have one status.
+-- Whatever the operations, they have one status, the same with threads and without.
 abbrev pub InputHasOneStatus : Type 0
-InputHasOneStatus = (operations : Operations) (asked : Option Task) (input : List ℕ) (s t : ℕ)
-    (text other : List ℕ) → Answers operations asked input s text
-    → Answers operations asked input t other → s ≡ t
+InputHasOneStatus = (threads beside : Bool) (operations : Operations) (asked : Option Task)
+    (input : List ℕ) (s t : ℕ) (text other : List ℕ)
+    → Answers threads operations asked input s text
+    → Answers beside operations asked input t other → s ≡ t
+
+-- An answer without threads is one with threads.
+abbrev pub AnswerIsOneWithThreads : Type 0
+AnswerIsOneWithThreads = (operations : Operations) (asked : Option Task) (input : List ℕ)
+    (status : ℕ) (text : List ℕ) → Answers false operations asked input status text
+    → Answers true operations asked input status text

@@ -1,7 +1,7 @@
 //! Laws of answers: functions that do nothing, whose clauses say what holds of the definitions.
 ghost use Rattle.std.specs.Prelude.{◌≡◌};
 ghost use Rattle.lattice_run.specs.declared.run.TheConstants.{MAX_INPUT};
-ghost use Rattle.lattice_run.specs.Theorems.{WordsAsk, WordsAskOnce, InputHasAnswer, InputHasOneAnswer, InputHasOneStatus, StatusNumbers};
+ghost use Rattle.lattice_run.specs.Theorems.{WordsAsk, WordsAskOnce, InputHasAnswer, InputHasOneAnswer, InputHasOneStatus, AnswerIsOneWithThreads, StatusNumbers};
 
 /// The limit, and the statuses, as numbers.
 pub fn limits()
@@ -15,10 +15,12 @@ pub fn one_task()
     ensures unique { WordsAskOnce }
 {}
 
-/// What words ask for and an input have an answer, its status and its text, and only one; whatever
-/// the operations, they have one status.
+/// What words ask for and an input have an answer, its status and its text, with threads and
+/// without, and without threads only one, which is one with threads too. Whatever the operations,
+/// they have one status, the same with threads and without.
 pub fn one_answer()
     ensures exists { InputHasAnswer }
     ensures unique { InputHasOneAnswer }
     ensures status { InputHasOneStatus }
+    ensures threads { AnswerIsOneWithThreads }
 {}

@@ -1,23 +1,30 @@
 //! The top call.
 
-ghost use Rattle.std.specs.Prelude.{◌≡◌, ◌≤◌, map, length, Some, IfSome, string_bytes};
+ghost use Rattle.std.specs.Prelude.{◌≡◌, ◌≤◌, ◌+◌, true, false, map, length, Some, IfSome, MatchResult, string_bytes};
 ghost use Rattle.lat_gen.specs.Theorems.{AreSizes};
+ghost use Rattle.lat_io.specs.Source.{TakesAtMost};
 ghost use Rattle.lat_io.specs.Streams.{stream, Stream};
-ghost use Rattle.lat_session.specs.Outcomes.{operations_of};
+ghost use Rattle.lat_language.specs.Grammar.{Spells};
+ghost use Rattle.lat_session.specs.Outcomes.{Operations, operations_of};
+ghost use Rattle.lattice_run.specs.declared.tasks.Output.{Output};
+ghost use Rattle.lattice_run.specs.declared.tasks.Output.TheVariants.{SharedTranscript};
 ghost use Rattle.lattice_run.specs.declared.tasks.Task.TheVariants.{Play, Gen};
 ghost use Rattle.lattice_run.specs.Tasks.{IsProper, limit};
 ghost use Rattle.lattice_run.specs.Answers.{TakesInput};
 ghost use Rattle.lattice_run.specs.Headline.{Headline};
-ghost use Rattle.lattice_run.specs.PrivateRuns.{Delivers, AnswersInput, Ran};
+ghost use Rattle.lattice_run.specs.PrivateRuns.{Delivers, DeliversOutput};
+ghost use Rattle.lattice_run.specs.PrivateRuns.{AnswersInput, ReadsScript, Ran};
 
-use crate::outputs::{played, summary};
+use crate::outputs::{played, shared_transcript, summary};
 use crate::status::{BAD_SCRIPT, DONE, NO_COMMAND, NO_MEMORY, READ_FAILED, WRITE_FAILED};
 use crate::tasks::{Output, Task, task_of};
 use lat_core::NoMemory;
 use lat_io::{Failed, ReadFault, Sink, Source, read_all, write_all_of};
-use lat_language::{MAX_SCRIPT, ScriptFault, bad_line, parse, too_long_line, usage_line};
+use lat_language::{MAX_SCRIPT, Script, ScriptFault, bad_line, parse, too_long_line, usage_line};
 use natural_ops::{Operation, Ops};
 use std::alloc::Global;
+use std::sync::Wait;
+use std::thread::Threads;
 
 /// The most bytes of an input.
 pub const MAX_INPUT: usize = MAX_SCRIPT;
@@ -34,28 +41,66 @@ fn deliver<K: Sink>(sink: &mut K, status: u8, text: &[u8]) -> u8
     }
 }
 
-// Writes the answer to an input that was read whole, and gives the status.
-fn answer<K: Sink, F: Operation, G: Operation, H: Operation>(
-    alloc: Global,
-    output: Output,
-    input: &[u8],
-    sink: &mut K,
-    ops: &Ops<F, G, H>,
-) -> u8
-    requires { length input.now ≤ MAX_INPUT }
-    ensures { AnswersInput (operations_of ops.now.first ops.now.second ops.now.third) output input.now
+// Writes the output of a task, if there is one, and gives the status.
+fn answer<K: Sink>(sink: &mut K, output: Result<Vec<u8>, NoMemory>) -> u8
+    ensures { DeliversOutput (λ text. text.items) output
         (stream (K.held sink.old) (K.faults sink.old))
         (stream (K.held sink.new) (K.faults sink.new)) result }
 {
+    match output {
+        Ok(text) => deliver(sink, DONE, &text),
+        Err(NoMemory) => NO_MEMORY,
+    }
+}
+
+// The script that an input spells, or the status after what is written where it spells none.
+fn spelled_script<K: Sink>(alloc: Global, input: &[u8], sink: &mut K) -> Result<Script, u8>
+    requires { length input.now ≤ MAX_INPUT }
+    ensures { MatchResult result
+        (λ script. Spells input.now script
+        × (stream (K.held sink.new) (K.faults sink.new)
+        ≡ stream (K.held sink.old) (K.faults sink.old)))
+        (λ status. (operations : Operations) (wanted : Output)
+        → AnswersInput operations wanted input.now
+        (stream (K.held sink.old) (K.faults sink.old))
+        (stream (K.held sink.new) (K.faults sink.new)) status) }
+{
     match parse(alloc, input) {
-        Ok(script) => match played(alloc, output, &script, ops) {
-            Ok(text) => deliver(sink, DONE, &text),
-            Err(NoMemory) => NO_MEMORY,
-        },
-        Err(ScriptFault::Line { number, kind }) => {
-            deliver(sink, BAD_SCRIPT, bad_line(number, kind).bytes())
-        }
-        Err(ScriptFault::NoMemory) => NO_MEMORY,
+        Ok(script) => Ok(script),
+        Err(ScriptFault::Line { number, kind }) => Err(deliver(
+            sink,
+            BAD_SCRIPT,
+            bad_line(number, kind).bytes(),
+        )),
+        Err(ScriptFault::NoMemory) => Err(NO_MEMORY),
+    }
+}
+
+// The script that the source gives, or the status after what is written where it gives none.
+fn read_script<S: Source, K: Sink>(
+    alloc: Global,
+    source: &mut S,
+    sink: &mut K,
+) -> Result<Script, u8>
+    ensures read { MatchResult result
+        (λ script. ReadsScript script
+        (stream (S.left source.old) (S.faults source.old))
+        (stream (S.left source.new) (S.faults source.new))
+        × (stream (K.held sink.new) (K.faults sink.new)
+        ≡ stream (K.held sink.old) (K.faults sink.old)))
+        (λ status. (operations : Operations) (wanted : Output)
+        → Ran false operations (Some (Play wanted))
+        (stream (S.left source.old) (S.faults source.old))
+        (stream (S.left source.new) (S.faults source.new))
+        (stream (K.held sink.old) (K.faults sink.old))
+        (stream (K.held sink.new) (K.faults sink.new)) status) }
+    ensures taken { TakesAtMost (S.left source.old) (S.left source.new) (MAX_INPUT + 1) }
+{
+    match read_all(alloc, source, MAX_INPUT) {
+        Ok(input) => spelled_script(alloc, &input, sink),
+        Err(ReadFault::TooLong(_)) => Err(deliver(sink, BAD_SCRIPT, too_long_line())),
+        Err(ReadFault::Failed) => Err(READ_FAILED),
+        Err(ReadFault::NoMemory) => Err(NO_MEMORY),
     }
 }
 
@@ -67,18 +112,44 @@ fn run_input<S: Source, K: Sink, F: Operation, G: Operation, H: Operation>(
     sink: &mut K,
     ops: &Ops<F, G, H>,
 ) -> u8
-    ensures ran { Ran (operations_of ops.now.first ops.now.second ops.now.third) (Some (Play output))
+    ensures ran { Ran false (operations_of ops.now.first ops.now.second ops.now.third)
+        (Some (Play output))
         (stream (S.left source.old) (S.faults source.old))
         (stream (S.left source.new) (S.faults source.new))
         (stream (K.held sink.old) (K.faults sink.old))
         (stream (K.held sink.new) (K.faults sink.new)) result }
     ensures taken { TakesInput (limit (Some (Play output))) (S.left source.old) (S.left source.new) }
 {
-    match read_all(alloc, source, MAX_INPUT) {
-        Ok(input) => answer(alloc, output, &input, sink, ops),
-        Err(ReadFault::TooLong(_)) => deliver(sink, BAD_SCRIPT, too_long_line()),
-        Err(ReadFault::Failed) => READ_FAILED,
-        Err(ReadFault::NoMemory) => NO_MEMORY,
+    match read_script(alloc, source, sink) {
+        Ok(script) => answer(sink, played(alloc, output, &script, ops)),
+        Err(status) => status,
+    }
+}
+
+// Reads a script, plays its sessions on threads, and writes the answer.
+fn run_shared<R: Threads + Wait + Sync, S: Source, K: Sink, F, G, H>(
+    rt: &R,
+    alloc: Global,
+    source: &mut S,
+    sink: &mut K,
+    ops: &Ops<F, G, H>,
+) -> u8
+where
+    F: Operation + Sync,
+    G: Operation + Sync,
+    H: Operation + Sync,
+    ensures ran { Ran true (operations_of ops.now.first ops.now.second ops.now.third)
+        (Some (Play SharedTranscript))
+        (stream (S.left source.old) (S.faults source.old))
+        (stream (S.left source.new) (S.faults source.new))
+        (stream (K.held sink.old) (K.faults sink.old))
+        (stream (K.held sink.new) (K.faults sink.new)) result }
+    ensures taken { TakesInput (limit (Some (Play SharedTranscript)))
+        (S.left source.old) (S.left source.new) }
+{
+    match read_script(alloc, source, sink) {
+        Ok(script) => answer(sink, shared_transcript(rt, alloc, &script, ops)),
+        Err(status) => status,
     }
 }
 
@@ -92,18 +163,16 @@ fn run_gen<K: Sink, F: Operation, G: Operation, H: Operation>(
     ops: &Ops<F, G, H>,
 ) -> u8
     requires { AreSizes fields embeds }
-    ensures { (source : Stream) → Ran (operations_of ops.now.first ops.now.second ops.now.third)
-        (Some (Gen seed fields embeds)) source source
+    ensures { (source : Stream) → Ran false
+        (operations_of ops.now.first ops.now.second ops.now.third) (Some (Gen seed fields embeds))
+        source source
         (stream (K.held sink.old) (K.faults sink.old))
         (stream (K.held sink.new) (K.faults sink.new)) result }
 {
-    match summary(alloc, seed, fields, embeds, ops) {
-        Ok(text) => deliver(sink, DONE, &text),
-        Err(NoMemory) => NO_MEMORY,
-    }
+    answer(sink, summary(alloc, seed, fields, embeds, ops))
 }
 
-// The whole run, for what is asked for.
+// The whole run, for what is asked for, on one thread.
 fn run<S: Source, K: Sink, F: Operation, G: Operation, H: Operation>(
     alloc: Global,
     asked: Option<Task>,
@@ -112,7 +181,7 @@ fn run<S: Source, K: Sink, F: Operation, G: Operation, H: Operation>(
     ops: &Ops<F, G, H>,
 ) -> u8
     requires { IfSome asked IsProper }
-    ensures ran { Ran (operations_of ops.now.first ops.now.second ops.now.third) asked
+    ensures ran { Ran false (operations_of ops.now.first ops.now.second ops.now.third) asked
         (stream (S.left source.old) (S.faults source.old))
         (stream (S.left source.new) (S.faults source.new))
         (stream (K.held sink.old) (K.faults sink.old))
@@ -134,13 +203,14 @@ fn run<S: Source, K: Sink, F: Operation, G: Operation, H: Operation>(
 
 /// Does the task that the words name, with the operations `ops`: it reads what the task reads from
 /// `source`, and appends what is written for it to `sink`. [`Task::Play`] reads a script of at most
-/// `MAX_INPUT` bytes to its end, and [`Task::Gen`] reads nothing.
+/// `MAX_INPUT` bytes to its end, and [`Task::Gen`] reads nothing. The sessions of `share` are played
+/// as those of `solo`, by the schedule.
 ///
 /// `words` are the words after the program's name. The answer is one of these statuses:
 ///
-/// - [`DONE`]: `words` are `solo` or `dump` alone, and the input spells a script, whose transcript,
-///   or the dump of whose lattice, was appended; or they are `gen` with a seed and numbers of fields and embeddings, and the summary
-///   of the generated script was appended.
+/// - [`DONE`]: `words` are `solo`, `share` or `dump` alone, and the input spells a script, whose
+///   transcript, or the dump of whose lattice, was appended; or they are `gen` with a seed and
+///   numbers of fields and embeddings, and the summary of the generated script was appended.
 /// - [`NO_COMMAND`]: `words` name no task; the usage line was appended, and nothing read.
 /// - [`BAD_SCRIPT`]: the input has more than `MAX_INPUT` bytes or spells no script; its fault line
 ///   was appended.
@@ -155,7 +225,7 @@ pub fn run_plain<S: Source, K: Sink, F: Operation, G: Operation, H: Operation>(
     sink: &mut K,
     ops: &Ops<F, G, H>,
 ) -> u8
-    ensures { Headline (operations_of ops.now.first ops.now.second ops.now.third)
+    ensures { Headline false (operations_of ops.now.first ops.now.second ops.now.third)
         (map string_bytes words.now)
         (stream (S.left source.old) (S.faults source.old))
         (stream (S.left source.new) (S.faults source.new))
@@ -163,4 +233,39 @@ pub fn run_plain<S: Source, K: Sink, F: Operation, G: Operation, H: Operation>(
         (stream (K.held sink.new) (K.faults sink.new)) result }
 {
     run(alloc, task_of(words), source, sink, ops)
+}
+
+/// Does what [`run_plain`] does, but the sessions of `share` are played beside each other, each on a
+/// thread of its own where the system has one for each, and none follows the schedule. If the call
+/// returns with [`DONE`] for `share`, the transcript that was appended is that of the sessions in
+/// some order. Which order it is, and that the call returns, no clause says.
+pub fn run_tool<R: Threads + Wait + Sync, S: Source, K: Sink, F, G, H>(
+    rt: &R,
+    alloc: Global,
+    words: &[String],
+    source: &mut S,
+    sink: &mut K,
+    ops: &Ops<F, G, H>,
+) -> u8
+where
+    F: Operation + Sync,
+    G: Operation + Sync,
+    H: Operation + Sync,
+    ensures { Headline true (operations_of ops.now.first ops.now.second ops.now.third)
+        (map string_bytes words.now)
+        (stream (S.left source.old) (S.faults source.old))
+        (stream (S.left source.new) (S.faults source.new))
+        (stream (K.held sink.old) (K.faults sink.old))
+        (stream (K.held sink.new) (K.faults sink.new)) result }
+{
+    let asked = task_of(words);
+    if let Some(
+        Task::Play {
+            output: Output::SharedTranscript,
+        },
+    ) = asked
+    {
+        return run_shared(rt, alloc, source, sink, ops);
+    }
+    run(alloc, asked, source, sink, ops)
 }

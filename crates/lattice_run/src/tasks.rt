@@ -11,6 +11,8 @@ use lat_gen::{MAX_GENERATED_EMBEDS, MAX_GENERATED_FIELDS};
 pub enum Output {
     /// Its transcript.
     Transcript,
+    /// Its transcript, where its sessions are played on threads if the run has threads.
+    SharedTranscript,
     /// The dump of the lattice after all changes.
     Dump,
 }
@@ -18,8 +20,7 @@ pub enum Output {
 /// What the program can do.
 #[derive(Clone, Copy, PartialEq, Eq, Debug)]
 pub enum Task {
-    /// Plays the script that the source gives by its schedule, and writes its transcript or the
-    /// dump of its lattice.
+    /// Plays the script that the source gives, and writes its transcript or the dump of its lattice.
     Play { output: Output },
     /// Plays the script that is generated from a seed, with this many fields and embeddings, and
     /// writes its summary alone. Nothing is read.
@@ -65,6 +66,10 @@ fn asked_by_word(word: &str) -> Option<Task>
         Some(Task::Play {
             output: Output::Transcript,
         })
+    } else if word == "share" {
+        Some(Task::Play {
+            output: Output::SharedTranscript,
+        })
     } else if word == "dump" {
         Some(Task::Play {
             output: Output::Dump,
@@ -94,11 +99,11 @@ fn asked_by_words(word: &str, seed: &str, fields: &str, embeds: &str) -> Option<
     })
 }
 
-/// The task that the words name, or None where they name none: `solo` alone and `dump` alone are
-/// [`Task::Play`], with the output [`Output::Transcript`] and [`Output::Dump`], and
-/// `gen` with a seed, a number of fields and a number of embeddings is [`Task::Gen`]. Numbers are
-/// in decimal, without zeros before them: a seed of 64 bits, fields from 1 to
-/// `MAX_GENERATED_FIELDS`, embeddings up to `MAX_GENERATED_EMBEDS`.
+/// The task that the words name, or None where they name none: `solo`, `share` and `dump`, each
+/// alone, are [`Task::Play`], with the output [`Output::Transcript`], [`Output::SharedTranscript`]
+/// and [`Output::Dump`], and `gen` with a seed, a number of fields and a number of embeddings is
+/// [`Task::Gen`]. Numbers are in decimal, without zeros before them: a seed of 64 bits, fields from
+/// 1 to `MAX_GENERATED_FIELDS`, embeddings up to `MAX_GENERATED_EMBEDS`.
 pub fn task_of(words: &[String]) -> Option<Task>
     ensures { Asks (map string_bytes words.now) result }
 {

@@ -2,6 +2,8 @@
 //! come of it.
 ghost use Rattle.std.specs.Prelude.{◌≤◌};
 
+mod shares;
+
 use crate::run_with;
 use crate::status::{BAD_SCRIPT, DONE, NO_COMMAND, READ_FAILED, WRITE_FAILED};
 use lat_io::{MemorySink, MemorySource, Sink, Source, StdSink, StdSource, read_all};

@@ -2,7 +2,7 @@
 #![tactic(auto)]
 
 use lat_io::{StdSink, StdSource};
-use lattice_run::{run_with, status};
+use lattice_run::{run_tool_with, status};
 use program_ops::{artin_schreier_table, square_table, successor_table};
 use std::alloc::{AllocError, Global};
 use std::process::ExitCode;
@@ -36,7 +36,8 @@ fn main(rt: HostRuntime) -> ExitCode {
     };
     let mut source = StdSource::new(rt.reader());
     let mut sink = StdSink::new(io::writer(&rt));
-    ExitCode::from(run_with(
+    ExitCode::from(run_tool_with(
+        &rt,
         rt.alloc(),
         &words,
         &mut source,

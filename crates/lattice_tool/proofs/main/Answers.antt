@@ -3,14 +3,14 @@ use Rattle.std.proofs.Common.{rules}
 use Rattle.program_ops.proofs.Realized.{square_realized, artin_schreier_realized, successor_realized}
 use Rattle.lattice_tool.proofs.main.Goals as goal
 
-pub run_with-requires-clause-first : goal.run_with-requires-clause-first
-run_with-requires-clause-first c = square_realized _ _ _ _ c.square_table.ensures
+pub run_tool_with-requires-clause-first : goal.run_tool_with-requires-clause-first
+run_tool_with-requires-clause-first g c κs = square_realized _ _ _ _ c.square_table.ensures
     (λ x y S v. search rules) (λ x y b S v p. search rules)
 
-pub run_with-requires-clause-second : goal.run_with-requires-clause-second
-run_with-requires-clause-second c = artin_schreier_realized _ _ _ _ c.artin_schreier_table.ensures
+pub run_tool_with-requires-clause-second : goal.run_tool_with-requires-clause-second
+run_tool_with-requires-clause-second g c κs = artin_schreier_realized _ _ _ _ c.artin_schreier_table.ensures
     (λ x y S v. search rules) (λ x y b S v p. search rules)
 
-pub run_with-requires-clause-third : goal.run_with-requires-clause-third
-run_with-requires-clause-third c = successor_realized _ _ _ _ c.successor_table.ensures
+pub run_tool_with-requires-clause-third : goal.run_tool_with-requires-clause-third
+run_tool_with-requires-clause-third g c κs = successor_realized _ _ _ _ c.successor_table.ensures
     (λ x y S v. search rules) (λ x y b S v p. search rules)

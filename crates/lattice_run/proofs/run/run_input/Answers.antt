@@ -1,25 +1,16 @@
--- Each way out of the run of an input.
-use Rattle.std.proofs.Common.{subst, sym, arith}
-use Rattle.lat_io.specs.Source.{ReadWhole}
-use Rattle.lattice_run.proofs.Running.{ran_too_long, ran_input, whole_takes, before_takes}
+-- What is written of the script that was read.
+use Rattle.lat_session.specs.Outcomes.{operations_of}
+use Rattle.lattice_run.proofs.Running.{read_playable, ran_output}
 use Rattle.lattice_run.proofs.run.run_input.Goals as goal
+
+pub played-requires : goal.played-requires
+played-requires g c = read_playable c.in-Ok.script c.in-Ok.ensures.read.0
 
 pub returns-in-Ok-clause-ran : goal.returns-in-Ok-clause-ran
 returns-in-Ok-clause-ran g c =
-    ran_input c.args.output _ _ _ _ c.answer.result c.deref.result.now (c.in-Ok.ensures.unfailed (λ e. cc))
-    (omega (arith, c.in-Ok.ensures.within, c.deref.ensures.len))
-    (subst (λ xs. ReadWhole (g.S.Source.left c.args.source.now) (g.S.Source.left c.read_all.new.source) xs) (sym c.deref.ensures.value) c.in-Ok.ensures.whole)
-    c.answer.ensures
+    ran_output _ _ _ _ c.answer.result (λ text. text.items) c.played.result c.args.output _ c.in-Ok.script c.in-Ok.ensures.read.0
+    c.in-Ok.ensures.read.1 c.played.ensures c.answer.ensures
 
-pub returns-in-Ok-clause-taken : goal.returns-in-Ok-clause-taken
-returns-in-Ok-clause-taken g c =
-    whole_takes _ _ c.in-Ok.input.items (omega (arith, c.in-Ok.ensures.within, c.deref.ensures.len)) c.in-Ok.ensures.whole
-
-pub returns-in-Err-TooLong-clause-ran : goal.returns-in-Err-TooLong-clause-ran
-returns-in-Err-TooLong-clause-ran g c =
-    let taken = (rw (c.in-Err-TooLong.field-0-is) at c.in-Err-TooLong.ensures.fault) in
-    ran_too_long c.args.output _ _ _ _ c.deliver.result c.too_long_line.result.now
-    (let is_long = c.in-Err-TooLong.field-0-is in c.in-Err-TooLong.ensures.unfailed (λ e. cc)) taken.1 c.too_long_line.ensures c.deliver.ensures
-
-pub returns-in-Err-TooLong-clause-taken : goal.returns-in-Err-TooLong-clause-taken
-returns-in-Err-TooLong-clause-taken g c = before_takes _ _ _ c.in-Err-TooLong.ensures.fault
+pub returns-in-Err-clause-ran : goal.returns-in-Err-clause-ran
+returns-in-Err-clause-ran g c =
+    c.in-Err.ensures.read (operations_of c.args.ops.now.first c.args.ops.now.second c.args.ops.now.third) c.args.output
