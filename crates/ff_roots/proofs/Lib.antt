@@ -9,3 +9,5 @@ pub mod ConjugateMembers
 pub mod BlankValues
 pub mod CommonRoots
 pub mod GeneralRoots
+pub mod ConstantValues
+pub mod MonicMultiples

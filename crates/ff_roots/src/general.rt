@@ -11,6 +11,8 @@ ghost use Rattle.ff_roots.specs.PrivateCollecting.{IsRising, Collects};
 ghost use Rattle.ff_roots.specs.PrivatePowers.{ArePowers};
 
 use crate::RootList;
+use crate::conjugates::conjugate_roots;
+use crate::constants::irreducible_of;
 use crate::frobenius::{PowerList, frobenius_powers, trace_of, variable};
 use crate::lists::add_root;
 use crate::parts::{linear_root, part_at};
@@ -20,7 +22,8 @@ use ff_polyx::PolyX;
 
 /// All values at which `g` vanishes, each once, least first.
 ///
-/// `g` isn't 0, and its degree is at most `MAX_DEGREE`.
+/// `g` isn't 0, and its degree is at most `MAX_DEGREE`. Where it is a multiple by a value of an
+/// irreducible polynomial over the prime field, its roots are found as `conjugate_roots` does.
 pub fn roots(field: &Field, g: &PolyX) -> RootList
     requires polynomial { IsPolynomial (field_values field.now) g.now }
     requires not_zero { g.now ≢ [] }
@@ -31,6 +34,9 @@ pub fn roots(field: &Field, g: &PolyX) -> RootList
     let mut list = RootList::new();
     if g.coefficients().len() < 2 {
         return list;
+    }
+    if let Some(f) = irreducible_of(field, g) {
+        return conjugate_roots(field, &f);
     }
     collect_roots(field, g, &mut list);
     list

@@ -5,6 +5,7 @@
 #![tactic(auto)]
 
 mod conjugates;
+mod constants;
 mod frobenius;
 mod general;
 mod lists;

@@ -22,6 +22,174 @@ struct Example {
     greatest: &'static [u8],
 }
 
+// A polynomial over a field with few values, and how many roots it has.
+struct Counted {
+    p: u32,
+    field: &'static [u8],
+    size: u32,
+    polynomial: Digits,
+    count: usize,
+}
+
+// Irreducible polynomials over the prime field, and multiples of such.
+const IRREDUCIBLE: [Counted; 9] = [
+    Counted {
+        p: 2,
+        field: &[1, 1, 1],
+        size: 4,
+        polynomial: &[&[1], &[1], &[1]],
+        count: 2,
+    },
+    Counted {
+        p: 2,
+        field: &[1, 1, 0, 1],
+        size: 8,
+        polynomial: &[&[1], &[1], &[1]],
+        count: 0,
+    },
+    Counted {
+        p: 2,
+        field: &[1, 1, 0, 0, 1],
+        size: 16,
+        polynomial: &[&[1], &[1], &[1]],
+        count: 2,
+    },
+    Counted {
+        p: 2,
+        field: &[1, 1, 0, 0, 0, 0, 1],
+        size: 64,
+        polynomial: &[&[1], &[1], &[1]],
+        count: 2,
+    },
+    Counted {
+        p: 2,
+        field: &[1, 1, 0, 0, 0, 0, 1],
+        size: 64,
+        polynomial: &[&[1], &[0], &[0], &[1], &[0], &[0], &[1]],
+        count: 6,
+    },
+    Counted {
+        p: 3,
+        field: &[1, 2, 0, 1],
+        size: 27,
+        polynomial: &[&[2], &[1], &[0], &[2]],
+        count: 3,
+    },
+    Counted {
+        p: 3,
+        field: &[1, 2, 0, 1],
+        size: 27,
+        polynomial: &[&[0, 1], &[0, 2], &[0], &[0, 1]],
+        count: 3,
+    },
+    Counted {
+        p: 5,
+        field: &[2, 0, 1],
+        size: 25,
+        polynomial: &[&[2], &[0], &[1]],
+        count: 2,
+    },
+    Counted {
+        p: 5,
+        field: &[2, 0, 1],
+        size: 25,
+        polynomial: &[&[3], &[1]],
+        count: 1,
+    },
+];
+
+// Reducible polynomials over the prime field.
+const REDUCIBLE: [Counted; 6] = [
+    Counted {
+        p: 2,
+        field: &[1, 1, 0, 0, 1],
+        size: 16,
+        polynomial: &[&[1], &[0], &[1], &[0], &[1]],
+        count: 2,
+    },
+    Counted {
+        p: 2,
+        field: &[1, 1, 0, 0, 0, 0, 1],
+        size: 64,
+        polynomial: &[&[1], &[0], &[0], &[1]],
+        count: 3,
+    },
+    Counted {
+        p: 2,
+        field: &[1, 1, 0, 0, 0, 0, 1],
+        size: 64,
+        polynomial: &[&[1], &[1], &[1], &[1], &[1], &[1], &[1]],
+        count: 6,
+    },
+    Counted {
+        p: 3,
+        field: &[1, 2, 0, 1],
+        size: 27,
+        polynomial: &[&[1], &[0], &[2], &[0], &[1]],
+        count: 0,
+    },
+    Counted {
+        p: 5,
+        field: &[2, 0, 1],
+        size: 25,
+        polynomial: &[&[4], &[0], &[0], &[0], &[1]],
+        count: 4,
+    },
+    Counted {
+        p: 5,
+        field: &[2, 0, 1],
+        size: 25,
+        polynomial: &[&[2], &[1], &[2], &[1]],
+        count: 2,
+    },
+];
+
+// Polynomials with a coefficient outside the prime field.
+const OUTSIDE: [Counted; 6] = [
+    Counted {
+        p: 2,
+        field: &[1, 1, 1],
+        size: 4,
+        polynomial: &[&[0, 1], &[1], &[1]],
+        count: 0,
+    },
+    Counted {
+        p: 2,
+        field: &[1, 1, 0, 0, 1],
+        size: 16,
+        polynomial: &[&[0, 1], &[1], &[1]],
+        count: 2,
+    },
+    Counted {
+        p: 2,
+        field: &[1, 1, 0, 0, 1],
+        size: 16,
+        polynomial: &[&[1], &[1], &[0, 1, 1]],
+        count: 2,
+    },
+    Counted {
+        p: 2,
+        field: &[1, 1, 0, 0, 0, 0, 1],
+        size: 64,
+        polynomial: &[&[1, 1], &[0], &[0], &[1]],
+        count: 3,
+    },
+    Counted {
+        p: 3,
+        field: &[1, 2, 0, 1],
+        size: 27,
+        polynomial: &[&[0, 1], &[2], &[0], &[1]],
+        count: 3,
+    },
+    Counted {
+        p: 5,
+        field: &[2, 0, 1],
+        size: 25,
+        polynomial: &[&[3], &[0, 2], &[1]],
+        count: 1,
+    },
+];
+
 // Irreducible polynomials over the prime field, of degree 1, 2, 24 and 48.
 const EXAMPLES: [Example; 5] = [
     Example {
@@ -226,14 +394,14 @@ fn roots_in_common(rt: HostRuntime) {
     }
 }
 
-// The value whose digits are those of a number to the base p, for a field of degree at most 4.
+// The value whose digits are those of a number to the base p, for a field of degree at most 6.
 fn numbered(rt: &impl Abort, field: &Field, number: u32) -> Value
     ensures { (field_values field.now).Valid result }
 {
     let p = field.prime().number() as u32;
     let n = field.degree() as usize;
-    assert!(rt; n <= 4 && p > 0);
-    let mut digits = [0; 4];
+    assert!(rt; n <= 6 && p > 0);
+    let mut digits = [0; 6];
     let mut rest = number;
     for i in 0..n {
         digits[i] = (rest % p) as u8;
@@ -313,4 +481,28 @@ fn roots_by_search(rt: HostRuntime) {
     compare_with_search(&rt, &field_of(&rt, 2, &[1, 1, 0, 0, 1]), 16);
     compare_with_search(&rt, &field_of(&rt, 3, &[1, 2, 0, 1]), 27);
     compare_with_search(&rt, &field_of(&rt, 5, &[2, 0, 1]), 25);
+}
+
+// Whether each polynomial has the roots that a search finds, and so many.
+fn compare_counted(rt: &impl Abort, rows: &[Counted]) {
+    for row in rows {
+        let field = field_of(rt, row.p, row.field);
+        let g = some_poly(rt, &field, row.polynomial);
+        assert!(rt; agrees_with_search(rt, &field, row.size, &g));
+        assert_eq!(rt; roots(&field, &g).items().len(), row.count);
+    }
+}
+
+#[test]
+fn roots_over_the_prime_field(rt: HostRuntime) {
+    compare_counted(&rt, &IRREDUCIBLE);
+    compare_counted(&rt, &REDUCIBLE);
+    let field = field_of(&rt, 2, &[1, 1, 0, 0, 0, 0, 1]);
+    let list = roots(&field, &some_poly(&rt, &field, QUADRATIC));
+    assert!(rt; has_values(&list, &[&[0, 1, 0, 1, 1, 1], &[1, 1, 0, 1, 1, 1]]));
+}
+
+#[test]
+fn roots_outside_the_prime_field(rt: HostRuntime) {
+    compare_counted(&rt, &OUTSIDE);
 }

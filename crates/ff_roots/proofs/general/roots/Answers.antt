@@ -15,3 +15,15 @@ returns-then-coefficients-lt2 c =
             (omega (arith, c.if-coefficients-lt2.true, ap length c.coefficients.ensures.value)) v r),
       );
     }
+
+pub returns-in-Some : goal.returns-in-Some
+returns-in-Some c =
+    let h = c.conjugate_roots.ensures in
+    let same = c.in-Some.ensures.roots in
+    record {
+      rising = h.rising;
+      exactly = λ v. (
+        λ m. (same v).0 ((h.exactly v).0 m),
+        λ r. (h.exactly v).1 ((same v).1 r),
+      );
+    }
