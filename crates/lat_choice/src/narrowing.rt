@@ -1,5 +1,5 @@
-//! The polynomial over the target of an embedding at whose roots the map agrees with the common
-//! subfields and sends what is prescribed.
+//! A polynomial over the target of an embedding: at the roots that it has in common with that of the
+//! source the map agrees with the common subfields that are needed, and sends what is prescribed.
 ghost use Rattle.std.specs.Prelude.{◌≡◌, ℕ, ◌+◌, ◌<◌, List, length, All, None};
 ghost use Rattle.std.specs.Option.{option_copied};
 ghost use Rattle.alg_model.specs.Polynomials as polynomials;
@@ -23,8 +23,8 @@ use ff_poly::MAX_POLYX;
 use ff_polyx::PolyX;
 use lat_core::{Lattice, Sending};
 
-// The polynomial whose common roots with that of `from` are the values at which the map agrees with
-// all common subfields: the greatest common divisor of those of the needed ones.
+// A polynomial whose common roots with that of `from` are the values at which the map agrees with the
+// common subfields that are needed.
 pub(crate) fn narrowed(lattice: &Lattice, from: u32, into: u32) -> PolyX
     requires fields { AreFields lattice.now from into }
     requires alike { AreAlike lattice.now from into }

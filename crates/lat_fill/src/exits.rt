@@ -30,8 +30,8 @@ fn open(exits: &mut [Option<u8>], degree: u32, place: u8)
     }
 }
 
-// Adds the `b`-th member, which leads into field `k`. Where another one of a multiple of its degree
-// does so, nothing changes.
+// Adds the `b`-th member, which leads into field `k`, for the degrees that divide its own and have no
+// member yet.
 fn add_exit(lattice: &Lattice, members: &[Member], k: u32, b: usize, exits: &mut [Option<u8>])
     requires members { AreMembers members.now }
     requires place { b < length members.now }

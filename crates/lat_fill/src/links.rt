@@ -98,7 +98,8 @@ fn add_links_to(
     Ok(())
 }
 
-// The maps between members that the lattice lacks: one for each two whose degrees divide.
+// Maps between members, so that with the lattice's own there is one for each two whose degrees
+// divide.
 pub(crate) fn links(lattice: &Lattice, members: &[Member]) -> Result<Vec<SharedMap>, NoMemory>
     requires { AreMembers members.now }
     ensures ways { IfOk result (λ maps. AreWays lattice.now members.now maps.items) }

@@ -124,8 +124,8 @@ fn has_place(members: &[Member], k: u32) -> bool
     false
 }
 
-// Appends the maps out of the members that the lattice lacks: one for each field that a member has
-// a stored map into, and each member that goes into that one.
+// Appends maps out of the members, so that with the lattice's own there is one for each field that a
+// member has a stored map into, and each member that goes into that one.
 pub(crate) fn add_outlets(
     lattice: &Lattice,
     members: &[Member],

@@ -27,7 +27,7 @@ use Rattle.lat_core.specs.declared.replies.Reply.TheVariants.{Declared, Refused}
 use Rattle.lat_core.specs.declared.rows.MapRow.{MapRow}
 use Rattle.lat_core.proofs.StepExists.{declared_is_row}
 use Rattle.lat_core.proofs.StepKeeps.{request_keeps}
-use Rattle.lat_insert.specs.Insertions.{TakesMemory}
+use Rattle.lat_insert.specs.Insertions.{StepAdds}
 use Rattle.lat_insert.specs.PrivateDeclaring.{identity_row, prime_map_row, AreMapsOf}
 use Rattle.lat_insert.proofs.Additions.{Maps, found_put}
 
@@ -131,8 +131,8 @@ module _ {L : Lattice} {name : List ℕ} {p : ℕ} {f : List ℕ} (C : IsCompati
       (request_keeps L (Declare name p f) (Declared (length L.rows) false) M C D.proper (declares d)).0
 
   -- and that takes memory
-  pub declaring_takes_memory : TakesMemory L (Declare name p f)
-  declaring_takes_memory =
+  pub declaring_adds : StepAdds L (Declare name p f)
+  declaring_adds =
       let (M, d) = declaring_exists_law L (declared_row name p f) C (declared_is_row C D.proper D.well_formed D.irreducible) in
       (Declared (length L.rows) false, M, declares d, tt)
 

@@ -1,6 +1,6 @@
--- Which steps take memory.
+-- Which steps add to the lattice. Only these may be answered that there is no memory.
 --     AddsToLattice reply         by this reply a field is declared, or maps are added
---     TakesMemory L request       the reply to the request is one of these
+--     StepAdds L request          the reply to the request is one of these
 use Rattle.std.specs.Prelude.{◌<◌, true, false}
 use Rattle.alg_model.specs.Lattices.{Lattice}
 use Rattle.lat_core.specs.declared.requests.Request.{Request}
@@ -17,6 +17,6 @@ AddsToLattice Synced = ⊥
 AddsToLattice (Refused refusal) = ⊥
 
 -- the step adds to the lattice
-abbrev pub TakesMemory : Lattice → Request → Type 0
-TakesMemory L request = (reply : Reply) × (M : Lattice) × Steps L request reply M
+abbrev pub StepAdds : Lattice → Request → Type 0
+StepAdds L request = (reply : Reply) × (M : Lattice) × Steps L request reply M
     × AddsToLattice reply

@@ -11,7 +11,7 @@ ghost use Rattle.lat_core.specs.Names.{IsDeclaredName};
 ghost use Rattle.lat_core.specs.Editions.{edition_of};
 ghost use Rattle.lat_core.specs.Step.{IsNamed, IsFreeName, IsWellFormed, IsMalformed, declared_row, Declares};
 ghost use Rattle.lat_core.specs.declared.requests.Request.TheVariants.{Declare};
-ghost use Rattle.lat_insert.specs.Insertions.{TakesMemory};
+ghost use Rattle.lat_insert.specs.Insertions.{StepAdds};
 ghost use Rattle.lat_insert.specs.PrivateDeclaring.{AreMapsOf};
 
 use crate::room::lacks_room;
@@ -193,7 +193,7 @@ fn declare_polynomial(
     ensures declared { IfOk result (λ reply. Declares lattice.old name.now polynomial.prime
         polynomial.coefficients reply lattice.new) }
     ensures kept { OnErr result (lattice.new ≡ lattice.old) }
-    ensures memory { OnErr result (TakesMemory lattice.old
+    ensures memory { OnErr result (StepAdds lattice.old
         (Declare name.now polynomial.prime polynomial.coefficients)) }
 {
     if let Some(number) = lattice.field_named(name) {
@@ -216,8 +216,8 @@ fn declare_polynomial(
     })
 }
 
-// Declares the field of this characteristic and polynomial under this name. Memory is taken for a
-// further field alone.
+// Declares the field of this characteristic and polynomial under this name. That there is no
+// memory is answered for a further field alone.
 pub(crate) fn declare(
     lattice: &mut Lattice,
     name: &FieldName,
@@ -228,7 +228,7 @@ pub(crate) fn declare(
     ensures declared { IfOk result (λ reply. Declares lattice.old name.now p digits.now reply
         lattice.new) }
     ensures kept { OnErr result (lattice.new ≡ lattice.old) }
-    ensures memory { OnErr result (TakesMemory lattice.old (Declare name.now p digits.now)) }
+    ensures memory { OnErr result (StepAdds lattice.old (Declare name.now p digits.now)) }
     ensures whole { IsCompatible lattice.old }
 {
     match well_formed(lattice.edition(), p, digits) {

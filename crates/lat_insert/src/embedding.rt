@@ -9,7 +9,7 @@ ghost use Rattle.alg_compatible.specs.Theorems.{AreFields};
 ghost use Rattle.lat_core.specs.Step.{IsValueOf, IsWrongTag, prescribed_values, AreEmbeddable, EmbedsField, Embeds};
 ghost use Rattle.lat_core.specs.declared.requests.Request.TheVariants.{Embed};
 ghost use Rattle.lat_core.specs.declared.replies.Reply.TheVariants.{Refused};
-ghost use Rattle.lat_insert.specs.Insertions.{TakesMemory};
+ghost use Rattle.lat_insert.specs.Insertions.{StepAdds};
 ghost use Rattle.lat_insert.specs.PrivateEmbedding.{AddsMaps, IsMissingCount, FillsBy};
 
 use crate::room::lacks_room;
@@ -194,8 +194,8 @@ fn embed_field(
     embed_new(lattice, from, into, sending)
 }
 
-// Embeds the field of one name in the field of another name. Memory is taken only where maps are
-// added.
+// Embeds the field of one name in the field of another name. That there is no memory
+// is answered only where maps would be added.
 pub(crate) fn embed(
     lattice: &mut Lattice,
     from: &FieldName,
@@ -205,7 +205,7 @@ pub(crate) fn embed(
     ensures embedded { IfOk result (λ reply.
         Embeds lattice.old from.now into.now sending.now reply lattice.new) }
     ensures kept { OnErr result (lattice.new ≡ lattice.old) }
-    ensures memory { OnErr result (TakesMemory lattice.old
+    ensures memory { OnErr result (StepAdds lattice.old
         (Embed from.now into.now sending.now)) }
 {
     let Some(source) = lattice.field_named(from) else {

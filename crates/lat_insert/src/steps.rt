@@ -5,7 +5,7 @@ ghost use Rattle.alg_model.specs.Lattices.{Grows, IsCompatible};
 ghost use Rattle.lat_core.specs.Step.{IsProperRequest, Steps};
 ghost use Rattle.lat_core.specs.declared.replies.StepRefusal.{StepRefusal};
 ghost use Rattle.lat_core.specs.declared.replies.Reply.TheVariants.{Refused};
-ghost use Rattle.lat_insert.specs.Insertions.{TakesMemory};
+ghost use Rattle.lat_insert.specs.Insertions.{StepAdds};
 
 use crate::declaring::declare;
 use crate::embedding::embed;
@@ -13,9 +13,8 @@ use lat_core::{Lattice, NoMemory, Reply, Request};
 
 /// Does what is requested of the lattice, and answers it.
 ///
-/// A field is declared under a declared name. The lattice after the step is built beside the one
-/// before it, and put in its place by one assignment. After a refusal, or where `NoMemory` is
-/// answered, it is as it was. `NoMemory` is answered only where a field would be declared that
+/// Requires that a field is declared under a declared name. After a refusal, or where `NoMemory` is
+/// answered, the lattice is as it was. `NoMemory` is answered only where a field would be declared that
 /// isn't there already, or an embedding would add maps.
 pub fn step(lattice: &mut Lattice, request: &Request) -> Result<Reply, NoMemory>
     requires proper { IsProperRequest request.now }
@@ -25,7 +24,7 @@ pub fn step(lattice: &mut Lattice, request: &Request) -> Result<Reply, NoMemory>
     ensures grows { Grows lattice.old lattice.new }
     ensures refused { (refusal : StepRefusal) → result ≡ Ok (Refused refusal)
         → lattice.new ≡ lattice.old }
-    ensures no_memory { OnErr result (TakesMemory lattice.old request.now) }
+    ensures no_memory { OnErr result (StepAdds lattice.old request.now) }
 {
     let _edition = lattice.edition();
     match request {

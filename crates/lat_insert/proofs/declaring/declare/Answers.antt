@@ -4,12 +4,12 @@ use Rattle.std.specs.Result.{OnErr}
 use Rattle.ff_poly.specs.Polynomial.{Polynomial}
 use Rattle.lat_core.specs.Step.{IsMalformed, Declares}
 use Rattle.lat_core.specs.declared.requests.Request.TheVariants.{Declare}
-use Rattle.lat_insert.specs.Insertions.{TakesMemory}
+use Rattle.lat_insert.specs.Insertions.{StepAdds}
 use Rattle.lat_insert.proofs.declaring.declare.Goals as goal
 
 pub returns-in-Ok-clause-memory : goal.returns-in-Ok-clause-memory
 returns-in-Ok-clause-memory c = subst
-    (λ (f : Polynomial). OnErr c.declare_polynomial.result (TakesMemory c.args.lattice.now (Declare c.args.name.now f.prime f.coefficients)))
+    (λ (f : Polynomial). OnErr c.declare_polynomial.result (StepAdds c.args.lattice.now (Declare c.args.name.now f.prime f.coefficients)))
     c.in-Ok.ensures.well_formed.1 c.declare_polynomial.ensures.memory
 
 pub returns-in-Err-clause-declared : goal.returns-in-Err-clause-declared

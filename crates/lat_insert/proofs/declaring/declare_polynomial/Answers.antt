@@ -3,7 +3,7 @@ use Rattle.std.proofs.Common.{subst, sym, false}
 use Rattle.lat_core.specs.Step.{Declares}
 use Rattle.lat_core.specs.declared.replies.StepRefusal.TheVariants.{TooManyFields}
 use Rattle.lat_core.specs.declared.replies.Reply.TheVariants.{Declared, Refused}
-use Rattle.lat_insert.proofs.Declarations.{reducible_declares, declares, declaring_takes_memory, has_room, on_err}
+use Rattle.lat_insert.proofs.Declarations.{reducible_declares, declares, declaring_adds, has_room, on_err}
 use Rattle.lat_insert.proofs.declaring.declare_polynomial.Goals as goal
 
 pub returns-in-Some-least_factor-clause-declared : goal.returns-in-Some-least_factor-clause-declared
@@ -18,7 +18,7 @@ returns-then-lacks_room-clause-declared c = subst
     (c.lacks_room.ensures.0 c.if-lacks_room.true))
 
 pub returns-in_err-lattice-clause-memory : goal.returns-in_err-lattice-clause-memory
-returns-in_err-lattice-clause-memory c = on_err c.from_residual.result (declaring_takes_memory c.edition.ensures.whole (record {
+returns-in_err-lattice-clause-memory c = on_err c.from_residual.result (declaring_adds c.edition.ensures.whole (record {
   proper = c.requires.proper;
   well_formed = c.requires.well_formed;
   free = c.in_default.ensures;

@@ -3,7 +3,7 @@ use Rattle.std.proofs.Common.{subst, sym}
 use Rattle.std.specs.Result.{OnErr}
 use Rattle.lat_core.specs.Step.{IsProperRequest}
 use Rattle.lat_core.specs.declared.requests.Request.TheVariants.{Declare, Embed}
-use Rattle.lat_insert.specs.Insertions.{TakesMemory}
+use Rattle.lat_insert.specs.Insertions.{StepAdds}
 use Rattle.lat_insert.proofs.StepsTaken.{step_keeps, step_refused}
 use Rattle.lat_insert.proofs.steps.step.Goals as goal
 
@@ -21,7 +21,7 @@ returns-in-Declare-clause-refused c = step_refused (Declare c.in-Declare.name c.
 
 pub returns-in-Declare-clause-no_memory : goal.returns-in-Declare-clause-no_memory
 returns-in-Declare-clause-no_memory c =
-    subst (λ r. OnErr c.declare.result (TakesMemory c.args.lattice.now r)) (sym c.in-Declare.is) c.declare.ensures.memory
+    subst (λ r. OnErr c.declare.result (StepAdds c.args.lattice.now r)) (sym c.in-Declare.is) c.declare.ensures.memory
 
 pub returns-in-Embed-clause-compatible : goal.returns-in-Embed-clause-compatible
 returns-in-Embed-clause-compatible c = (step_keeps (Embed c.in-Embed.from c.in-Embed.into c.in-Embed.sending) c.edition-edition.ensures.whole
@@ -37,4 +37,4 @@ returns-in-Embed-clause-refused c = step_refused (Embed c.in-Embed.from c.in-Emb
 
 pub returns-in-Embed-clause-no_memory : goal.returns-in-Embed-clause-no_memory
 returns-in-Embed-clause-no_memory c =
-    subst (λ r. OnErr c.embed.result (TakesMemory c.args.lattice.now r)) (sym c.in-Embed.is) c.embed.ensures.memory
+    subst (λ r. OnErr c.embed.result (StepAdds c.args.lattice.now r)) (sym c.in-Embed.is) c.embed.ensures.memory
