@@ -418,9 +418,13 @@ module _ (edition : lattices.Edition) (operations : Operations) (history : List 
       let E : Ends n (session_at w.sessions n).left w = end_session n (session_at w.sessions n).left w C (omega (arith, all)) refl in
       let here : count ≡ length (session_at w.sessions n).left = left 0 (omega arith) ∙ ap (λ k. length (session_at w.sessions k).left) (omega arith) in
       let A : AllEnd (suc n) counts E.on.world = end_from counts (suc n) E.on.world E.on.coming (omega (arith, all, E.on.same))
-      (λ j l. left (suc j) (omega (arith, l))
-      ∙ ap (λ k. length (session_at w.sessions k).left) (omega arith)
-      ∙ ap (λ (s : SessionState). length s.left) (sym (E.others (suc n + j) (λ same. absurd (omega (arith, same)))))) in
+      (λ j l.
+          let k : ℕ = suc n + j in
+          let own : slice_index_or counts j 0 ≡ length (session_at w.sessions (n + suc j)).left = left (suc j) (omega (arith, l)) in
+          let place : n + suc j ≡ k = omega arith in
+          let at : slice_index_or counts j 0 ≡ length (session_at w.sessions k).left = subst (λ i. slice_index_or counts j 0 ≡ length (session_at w.sessions i).left) place own in
+          let same : session_at E.on.world.sessions k ≡ session_at w.sessions k = E.others k (λ e. absurd (omega (arith, e))) in
+          subst (λ (s : SessionState). slice_index_or counts j 0 ≡ length s.left) (sym same) at) in
       record {
         world = A.world;
         runs = runs_both edition operations (replicate count n) (rest_from (suc n) counts) w E.on.world A.world
