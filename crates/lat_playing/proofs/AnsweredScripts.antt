@@ -21,7 +21,7 @@ use Rattle.lat_playing.proofs.WorldEvents.{not_both, runs_both}
 use Rattle.lat_playing.proofs.FinishedWorlds.{rest_left}
 use Rattle.lat_playing.proofs.HeldChanges.{own_both, no_lines_past, prologue_holds}
 use Rattle.lat_playing.proofs.AnsweredSessions.{AllStand, runs_stand, prologue_stands, new_at, runs_length, no_commands}
-use Rattle.lat_playing.proofs.AnsweredWorlds.{own_here, own_there, none_to_come, Coming, AreComing, GoesOn, AllEnd, AllTurned, turns, end_from}
+use Rattle.lat_playing.proofs.AnsweredWorlds.{own_here, own_there, none_to_come, Coming, AreComing, AllEnd, AllTurned, turns, end_from}
 
 -- a number that has none of the entries
 none_own : (n k : ℕ) (entries : List Entry) → own_entries_from n k entries ≡ []

@@ -1,5 +1,5 @@
 -- Sessions whose lines answer their commands over one history are those of a world.
-use Rattle.std.proofs.Common.{◌≡◌, ℕ, zero, suc, ◌+◌, ◌<◌, ◌≤◌, List, [], ◌∷◌, ◌++◌, length, map, set, take, replicate, refl, sym, ap, ◌∙◌, subst, arith, inl, inr, length-append, append_assoc, get_or-set_same, get_or-set_other, Some, None}
+use Rattle.std.proofs.Common.{◌≡◌, ℕ, suc, ◌+◌, ◌<◌, ◌≤◌, List, [], ◌∷◌, ◌++◌, length, map, set, take, replicate, refl, sym, ap, ◌∙◌, subst, arith, inl, inr, length-append, append_assoc, get_or-set_same, get_or-set_other, Some, None}
 use Rattle.std.specs.Prelude.{if◌then◌else◌, All, slice_get, slice_index_or}
 use Rattle.std.proofs.lemmas.List.Elements.{All-head, All-tail}
 use Rattle.std.specs.List.{cons_option}
@@ -416,19 +416,21 @@ module _ (edition : lattices.Edition) (operations : Operations) (history : List 
   end_from [] n w C all left = record { world = w; runs = refl; coming = C; same = refl }
   end_from (count ∷ counts) n w C all left =
       let E : Ends n (session_at w.sessions n).left w = end_session n (session_at w.sessions n).left w C (omega (arith, all)) refl in
-      let here : count ≡ length (session_at w.sessions n).left = left 0 (omega arith) ∙ ap (λ k. length (session_at w.sessions k).left) (omega arith) in
+      let at : n + 0 ≡ n = omega arith in
+      let here : count ≡ length (session_at w.sessions n).left = subst (λ k. count ≡ length (session_at w.sessions k).left) at (left 0 (omega arith)) in
+      let runs : Runs edition operations (replicate count n) w E.on.world = subst (λ k. Runs edition operations (replicate k n) w E.on.world) (sym here)
+      (subst (λ events. Runs edition operations events w E.on.world) E.count E.on.runs) in
       let A : AllEnd (suc n) counts E.on.world = end_from counts (suc n) E.on.world E.on.coming (omega (arith, all, E.on.same))
       (λ j l.
-          let k : ℕ = suc n + j in
-          let own : slice_index_or counts j 0 ≡ length (session_at w.sessions (n + suc j)).left = left (suc j) (omega (arith, l)) in
-          let place : n + suc j ≡ k = omega arith in
-          let at : slice_index_or counts j 0 ≡ length (session_at w.sessions k).left = subst (λ i. slice_index_or counts j 0 ≡ length (session_at w.sessions i).left) place own in
-          let same : session_at E.on.world.sessions k ≡ session_at w.sessions k = E.others k (λ e. absurd (omega (arith, e))) in
-          subst (λ (s : SessionState). slice_index_or counts j 0 ≡ length s.left) (sym same) at) in
+      let k : ℕ = suc n + j in
+      let own : slice_index_or counts j 0 ≡ length (session_at w.sessions (n + suc j)).left = left (suc j) (omega (arith, l)) in
+      let place : n + suc j ≡ k = omega arith in
+      let at : slice_index_or counts j 0 ≡ length (session_at w.sessions k).left = subst (λ i. slice_index_or counts j 0 ≡ length (session_at w.sessions i).left) place own in
+      let same : session_at E.on.world.sessions k ≡ session_at w.sessions k = E.others k (λ e. absurd (omega (arith, e))) in
+      subst (λ (s : SessionState). slice_index_or counts j 0 ≡ length s.left) (sym same) at) in
       record {
         world = A.world;
-        runs = runs_both edition operations (replicate count n) (rest_from (suc n) counts) w E.on.world A.world
-            (subst (λ events. Runs edition operations events w E.on.world) (E.count ∙ ap (λ k. replicate k n) (sym here)) E.on.runs) A.runs;
+        runs = runs_both edition operations (replicate count n) (rest_from (suc n) counts) w E.on.world A.world runs A.runs;
         coming = A.coming;
-        same = A.same ∙ E.on.same;
+        same = omega (arith, A.same, E.on.same);
       }

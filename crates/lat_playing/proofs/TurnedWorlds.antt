@@ -1,6 +1,5 @@
 -- A transcript of sessions in some order is the one that is read off its places.
-use Rattle.std.proofs.Common.{◌≡◌, ℕ, zero, suc, ◌+◌, ◌<◌, List, [], ◌∷◌, ◌++◌, length, map, drop, replicate, set, refl, sym, ap, ap₂, ◌∙◌, subst, arith, inl, inr, append-nil, append_assoc, get_or-set_other}
-use Rattle.std.specs.Prelude.{All}
+use Rattle.std.proofs.Common.{◌≡◌, ℕ, suc, List, [], ◌∷◌, ◌++◌, length, map, drop, replicate, refl, sym, ap, ap₂, ◌∙◌, subst, arith, inl, inr, append-nil, append_assoc, get_or-set_other}
 use Rattle.std.proofs.lemmas.List.{get_or_append_left, nil_from_length}
 use Rattle.std.proofs.lemmas.List.Elements.{All-from_get_or}
 use Rattle.std.proofs.lemmas.Bool.{cases_eq}
@@ -19,13 +18,13 @@ use Rattle.lat_session.specs.Outcomes.{Operations}
 use Rattle.lat_playing.specs.Worlds.{SessionState, World, new_session, session_at, only_prologue, open_sessions, rest, HasLine, Happens, Runs, IsWorld}
 use Rattle.lat_playing.specs.Worlds.HasLine.{change, read}
 use Rattle.lat_playing.specs.Worlds.Happens.{nothing, plays}
-use Rattle.lat_playing.specs.Transcripts.{lines_text, blocks_text, transcript_text, IsText, IsFair}
-use Rattle.lat_playing.specs.Turns.{order_from, IsTurn, AreTurns, IsByPlaces}
+use Rattle.lat_playing.specs.Transcripts.{lines_text, blocks_text, IsText}
+use Rattle.lat_playing.specs.Turns.{order_from, IsTurn, AreTurns}
 use Rattle.lat_playing.specs.Theorems.{FairIsByPlaces, PlacesAreFair}
 use Rattle.lat_playing.specs.PrivateWorlds.{lines_at}
 use Rattle.lat_playing.proofs.WorldEvents.{not_both, runs_both}
 use Rattle.lat_playing.proofs.FinishedWorlds.{rest_left}
-use Rattle.lat_playing.proofs.HeldChanges.{open_lines, world_holds}
+use Rattle.lat_playing.proofs.HeldChanges.{world_holds}
 use Rattle.lat_playing.proofs.AnsweredSessions.{runs_length, world_length, world_answered}
 use Rattle.lat_playing.proofs.AnsweredScripts.{answered_turns}
 

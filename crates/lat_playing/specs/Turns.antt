@@ -13,7 +13,8 @@ use Rattle.lat_session.specs.Outcomes.{Operations}
 use Rattle.lat_playing.specs.Worlds.{World, only_prologue, open_sessions, rest, Happens, Runs}
 use Rattle.lat_playing.specs.Transcripts.{IsText}
 
--- a change has the session of its entry
+-- In a world's history the entries of a session are the changes among its lines, at their marks. So
+-- these are the sessions of the changes, in the order of their marks.
 abbrev pub order_from : ℕ → List Entry → List ℕ
 order_from place history = map (λ (entry : Entry). entry.session) (drop place history)
 
