@@ -2,7 +2,7 @@
 use Rattle.std.proofs.Common.{◌≡◌, ℕ, zero, suc, ◌+◌, ◌<◌, ◌≤◌, List, [], ◌∷◌, ◌++◌, length, map, refl, sym, ap, ◌∙◌, subst, arith, inl, inr, length-append, append-nil}
 use Rattle.std.specs.Prelude.{All, slice_index_or}
 use Rattle.std.specs.FinMap.{empty}
-use Rattle.std.proofs.lemmas.List.{get_or_append_left, get_or-append_right, length-map, append_cancel_left, nil_from_length}
+use Rattle.std.proofs.lemmas.List.{get_or_append_left, get_or-append_right, get_or-map, length-map, append_cancel_left, nil_from_length}
 use Rattle.std.proofs.lemmas.List.Elements.{All-nil, All-cons, All-from_get_or}
 use Rattle.std.proofs.lemmas.Bool.{cases_lt, cases_eq}
 use Rattle.alg_model.specs.Lattices as lattices
@@ -14,13 +14,14 @@ use Rattle.lat_language.specs.declared.scripts.SessionScript.{SessionScript}
 use Rattle.lat_session.specs.Outcomes.{Operations}
 use Rattle.lat_playing.specs.Worlds.{SessionState, World, new_session, session_at, only_prologue, open_sessions, rest, Runs, IsWorld}
 use Rattle.lat_playing.specs.Answered.{AreAnswered, commands_of, opening_front}
+use Rattle.lat_playing.specs.Turns.{AreTurns}
 use Rattle.lat_playing.specs.Theorems.{changes_of, own_entries_from, own_entries, AnsweredSessionsAreWorld}
 use Rattle.lat_playing.specs.PrivateWorlds.{lines_at}
 use Rattle.lat_playing.proofs.WorldEvents.{not_both, runs_both}
 use Rattle.lat_playing.proofs.FinishedWorlds.{rest_left}
 use Rattle.lat_playing.proofs.HeldChanges.{own_both, no_lines_past, prologue_holds}
 use Rattle.lat_playing.proofs.AnsweredSessions.{AllStand, runs_stand, prologue_stands, new_at, runs_length, no_commands}
-use Rattle.lat_playing.proofs.AnsweredWorlds.{own_here, own_there, none_to_come, Coming, AreComing, GoesOn, AllEnd, turns, end_below}
+use Rattle.lat_playing.proofs.AnsweredWorlds.{own_here, own_there, none_to_come, Coming, AreComing, AllEnd, AllTurned, turns, end_from}
 
 -- a number that has none of the entries
 none_own : (n k : ℕ) (entries : List Entry) → own_entries_from n k entries ≡ []
@@ -139,55 +140,95 @@ module _ (edition : lattices.Edition) (operations : Operations) (script : Script
   unfolding opened
   begins = record { whole = whole; each = each }
 
-  turned : GoesOn edition operations history legal lines opened []
+  turned : AllTurned edition operations history legal lines opened later
   turned = turns edition operations history legal lines later opened begins numbers
 
-  ended : AllEnd edition operations history legal lines turned.world
-  ended = end_below edition operations history legal lines (length turned.world.sessions) turned.world turned.coming (omega arith) (λ k low i. absurd (omega (arith, low, i)))
+  ended : AllEnd edition operations history legal lines 0
+      (map (λ (s : SessionState). length s.left) turned.on.world.sessions) turned.on.world
+  ended =
+      let sessions = turned.on.world.sessions in
+      let counts = map (λ (s : SessionState). length s.left) sessions in
+      end_from edition operations history legal lines counts 0 turned.on.world turned.on.coming
+      (omega (arith, length-map sessions (λ (s : SessionState). length s.left)))
+      (λ j l. get_or-map (λ (s : SessionState). length s.left) sessions j (new_session 0 []) 0 (omega (arith, l, length-map sessions (λ (s : SessionState). length s.left)))
+      ∙ ap (λ k. length (session_at sessions k).left) (omega arith))
 
   last : World
-  last = ended.on.world
+  last = ended.world
 
   last_length : length last.sessions ≡ length script.sessions + 1
   unfolding last
-  last_length = ended.on.same ∙ turned.same ∙ opened_length
+  last_length = ended.same ∙ turned.on.same ∙ opened_length
 
   none_left : All (λ (s : SessionState). s.left ≡ []) last.sessions
   unfolding last
-  none_left = All-from_get_or (λ (s : SessionState). s.left ≡ []) ended.on.world.sessions (new_session 0 []) (λ i l. ended.none i (omega (arith, l, ended.on.same)))
+  none_left = All-from_get_or (λ (s : SessionState). s.left ≡ []) ended.world.sessions (new_session 0 []) (λ i l. nil_from_length (session_at ended.world.sessions i).left (rest_left edition operations turned.on.world ended.world i ended.runs))
 
   last_lines : (n : ℕ) → lines_at last n ≡ lines n
   unfolding last
-  last_lines n = elim (cases_lt n (length ended.on.world.sessions)) [
+  last_lines n = elim (cases_lt n (length ended.world.sessions)) [
     | inl within ↦
-        let s = session_at ended.on.world.sessions n in
-        let C = ended.on.coming.each n within in
+        let s = session_at ended.world.sessions n in
+        let C = ended.coming.each n within in
         let done : C.to_come ≡ [] = none_to_come edition operations history legal lines n s.variables s.front C.to_come
         (subst (λ cs. AreAnswered edition operations n history s.variables s.front cs C.to_come) (none_left n (new_session 0 []) within) C.answers) in
         sym (append-nil s.lines) ∙ ap (λ ls. s.lines ++ ls) (sym done) ∙ C.joined
-    | inr past ↦ no_lines_past edition operations ended.on.world.sessions n past ∙ sym (no_lines n (omega (arith, past, last_length)))
+    | inr past ↦ no_lines_past edition operations ended.world.sessions n past ∙ sym (no_lines n (omega (arith, past, last_length)))
   ]
 
-  is_world : IsWorld edition operations script (turned.events ++ ended.on.events) last
+  is_world : IsWorld edition operations script (turned.on.events ++ rest turned.on.world) last
   unfolding last opened
   is_world = record {
     prologue = prologue;
     played = played;
-    runs = runs_both edition operations turned.events ended.on.events (open_sessions script prologue) turned.world ended.on.world turned.runs ended.on.runs;
+    runs = runs_both edition operations turned.on.events (rest turned.on.world) (open_sessions script prologue) turned.on.world ended.world turned.on.runs ended.runs;
   }
 
   last_history : last.history ≡ history
   unfolding last
-  last_history = sym (ended.on.coming.whole ∙ append-nil ended.on.world.history)
+  last_history = sym (ended.coming.whole ∙ append-nil ended.world.history)
+
+  are_turns : AreTurns edition operations (map (λ (e : Entry). e.session) later)
+      (open_sessions script prologue) turned.on.world
+  unfolding opened
+  are_turns = turned.are_turns
+
+  last_runs : Runs edition operations (rest turned.on.world) turned.on.world last
+  unfolding last
+  last_runs = ended.runs
 
 -- **sessions that are answered over one history are those of a world**
 pub answered_world : AnsweredSessionsAreWorld
 answered_world edition operations script prologue history later lines played whole legal first answers changes = (
-  (turned edition operations script prologue history later lines played whole legal first answers changes).events
-      ++ (ended edition operations script prologue history later lines played whole legal first answers changes).on.events,
+  (turned edition operations script prologue history later lines played whole legal first answers changes).on.events
+      ++ rest (turned edition operations script prologue history later lines played whole legal first answers changes).on.world,
   last edition operations script prologue history later lines played whole legal first answers changes,
   is_world edition operations script prologue history later lines played whole legal first answers changes,
   last_history edition operations script prologue history later lines played whole legal first answers changes,
   none_left edition operations script prologue history later lines played whole legal first answers changes,
+  last_lines edition operations script prologue history later lines played whole legal first answers changes,
+)
+
+-- **in which they take turns in the order of the entries, and then play what is left**
+pub answered_turns : (edition : lattices.Edition) (operations : Operations)
+    (script : Script) (prologue : World) (history later : List Entry) (lines : ℕ → List Line)
+    → Runs edition operations (rest (only_prologue script.prologue))
+    (only_prologue script.prologue) prologue
+    → history ≡ prologue.history ++ later → IsLegal edition history
+    → lines 0 ≡ lines_at prologue 0
+    → ((n : ℕ) → AreAnswered edition operations n history empty
+    (opening_front (length prologue.history) n) (commands_of script n) (lines n))
+    → ((n : ℕ) → changes_of (lines n) ≡ own_entries n history)
+    → (v : World) × (w : World)
+    × AreTurns edition operations (map (λ (e : Entry). e.session) later) (open_sessions script prologue) v
+    × Runs edition operations (rest v) v w × (w.history ≡ history)
+    × (length w.sessions ≡ length script.sessions + 1) × ((n : ℕ) → lines_at w n ≡ lines n)
+answered_turns edition operations script prologue history later lines played whole legal first answers changes = (
+  (turned edition operations script prologue history later lines played whole legal first answers changes).on.world,
+  last edition operations script prologue history later lines played whole legal first answers changes,
+  are_turns edition operations script prologue history later lines played whole legal first answers changes,
+  last_runs edition operations script prologue history later lines played whole legal first answers changes,
+  last_history edition operations script prologue history later lines played whole legal first answers changes,
+  last_length edition operations script prologue history later lines played whole legal first answers changes,
   last_lines edition operations script prologue history later lines played whole legal first answers changes,
 )

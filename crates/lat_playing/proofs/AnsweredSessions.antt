@@ -1,6 +1,6 @@
 -- Each session's lines answer its commands over the one history.
 use Rattle.std.proofs.Common.{◌≡◌, ℕ, zero, suc, ◌+◌, ◌<◌, ◌≤◌, List, [], ◌∷◌, ◌++◌, length, map, set, refl, sym, ap, ◌∙◌, subst, arith, inl, inr, length-append, append-nil, append_assoc, get_or-set_same, get_or-set_other, Some}
-use Rattle.std.specs.Prelude.{slice_get, slice_index_or}
+use Rattle.std.specs.Prelude.{slice_get, slice_index_or, All}
 use Rattle.std.specs.FinMap.{empty}
 use Rattle.std.proofs.lemmas.List.{get_or_past, get_or_append_left, get_or-append_right, length-map, length-set, take-append-le}
 use Rattle.std.proofs.lemmas.Bool.{cases_eq, cases_lt}
@@ -22,6 +22,7 @@ use Rattle.lat_playing.specs.Answered.{IsAnswered, AreAnswered, commands_of, ope
 use Rattle.lat_playing.specs.Answered.IsAnswered.{change, read}
 use Rattle.lat_playing.specs.PrivateAnswered.{Answers, Stands}
 use Rattle.lat_playing.specs.Theorems.{LinesAnswerCommands}
+use Rattle.lat_playing.proofs.WorldEvents.{runs_both}
 use Rattle.lat_playing.proofs.FinishedWorlds.{solo_finished}
 
 -- ---- entries at places
@@ -252,25 +253,51 @@ module _ (edition : lattices.Edition) (operations : Operations) where
       (sym (S.all ∙ ap (λ cs. S.played ++ cs) none ∙ append-nil S.played))
       (are_answered n history S.played s.lines empty front s.variables s.front S.answers)
 
+  open_length : (script : Script) (w : World) → length w.sessions ≡ 1
+      → length (open_sessions script w).sessions ≡ length script.sessions + 1
+  open_length script w one =
+      let new = map (λ (s : SessionScript). new_session (length w.history) s.commands) script.sessions in
+      omega (
+        arith,
+        length-append w.sessions new,
+        one,
+        length-map script.sessions (λ (s : SessionScript). new_session (length w.history) s.commands),
+      )
+
+  pub world_length : (script : Script) (events : List ℕ) (w : World)
+      → IsWorld edition operations script events w
+      → length w.sessions ≡ length script.sessions + 1
+  world_length script events w a =
+      runs_length events (open_sessions script a.prologue) w a.runs
+      ∙ open_length script a.prologue
+      (runs_length (rest (only_prologue script.prologue)) (only_prologue script.prologue) a.prologue a.played)
+
+  -- **where no command is left, each session's lines answer its commands**
+  pub world_answered : (script : Script) (events : List ℕ) (w : World)
+      → (a : IsWorld edition operations script events w)
+      → All (λ (s : SessionState). s.left ≡ []) w.sessions → (n : ℕ)
+      → AreAnswered edition operations n w.history empty
+      (opening_front (length a.prologue.history) n) (commands_of script n) (session_at w.sessions n).lines
+  unfolding AllStand
+  world_answered script events w a none n =
+      let front : ℕ = opening_front (length a.prologue.history) n in
+      elim (cases_lt n (length w.sessions)) [
+        | inl within ↦ session_answered n w.history (commands_of script n) front
+            (session_at w.sessions n) (none n (new_session 0 []) within)
+            (world_stands script events w a n within)
+        | inr past ↦ subst (λ cs. AreAnswered edition operations n w.history empty front cs (session_at w.sessions n).lines)
+            (sym (no_commands script n (omega (arith, past, world_length script events w a))))
+            (subst (λ ls. AreAnswered edition operations n w.history empty front [] ls)
+            (sym (ap (λ (s : SessionState). s.lines) (get_or_past w.sessions n (new_session 0 []) past))) tt)
+      ]
+
 -- **each session's lines answer its commands**
 pub lines_answer : LinesAnswerCommands
-unfolding AllStand
-lines_answer edition operations script w a n =
-    let finished = solo_finished edition operations script w a in
-    let count : length w.sessions ≡ length script.sessions + 1 = omega (
-      arith,
-      length-map w.sessions (λ (s : SessionState). length s.lines),
-      ap length finished.lines,
-      length-map script.sessions (λ (s : SessionScript). length s.commands),
-    ) in
-    let front : ℕ = opening_front (length a.is_world.prologue.history) n in
-    elim (cases_lt n (length w.sessions)) [
-      | inl within ↦ session_answered edition operations n w.history (commands_of script n) front
-          (session_at w.sessions n) (finished.none_left n (new_session 0 []) within)
-          (runs_stand edition operations (commands_of script) (opening_front (length a.is_world.prologue.history)) (rest a.scheduled) a.scheduled w a.runs
-          (world_stands edition operations script (map (λ place. place + 1) script.schedule) a.scheduled a.is_world) n within)
-      | inr past ↦ subst (λ cs. AreAnswered edition operations n w.history empty front cs (session_at w.sessions n).lines)
-          (sym (no_commands edition operations script n (omega (arith, past, count))))
-          (subst (λ ls. AreAnswered edition operations n w.history empty front [] ls)
-          (sym (ap (λ (s : SessionState). s.lines) (get_or_past w.sessions n (new_session 0 []) past))) tt)
-    ]
+lines_answer edition operations script w a n = world_answered edition operations script
+    (map (λ place. place + 1) script.schedule ++ rest a.scheduled) w
+    (record {
+      prologue = a.is_world.prologue;
+      played = a.is_world.played;
+      runs = runs_both edition operations (map (λ place. place + 1) script.schedule) (rest a.scheduled) (open_sessions script a.is_world.prologue) a.scheduled w a.is_world.runs a.runs;
+    })
+    (solo_finished edition operations script w a).none_left n

@@ -1,6 +1,6 @@
 -- Sessions whose lines answer their commands over one history are those of a world.
-use Rattle.std.proofs.Common.{◌≡◌, ℕ, zero, suc, ◌+◌, ◌<◌, ◌≤◌, List, [], ◌∷◌, ◌++◌, length, set, take, refl, sym, ap, ◌∙◌, subst, arith, inl, inr, length-append, append_assoc, get_or-set_same, get_or-set_other, Some, None}
-use Rattle.std.specs.Prelude.{if◌then◌else◌, All, slice_get}
+use Rattle.std.proofs.Common.{◌≡◌, ℕ, suc, ◌+◌, ◌<◌, ◌≤◌, List, [], ◌∷◌, ◌++◌, length, map, set, take, replicate, refl, sym, ap, ◌∙◌, subst, arith, inl, inr, length-append, append_assoc, get_or-set_same, get_or-set_other, Some, None}
+use Rattle.std.specs.Prelude.{if◌then◌else◌, All, slice_get, slice_index_or}
 use Rattle.std.proofs.lemmas.List.Elements.{All-head, All-tail}
 use Rattle.std.specs.List.{cons_option}
 use Rattle.std.specs.Option.{option_map}
@@ -22,11 +22,12 @@ use Rattle.lat_language.specs.declared.commands.Command.{Command}
 use Rattle.lat_session.specs.Variables.{Variables}
 use Rattle.lat_session.specs.Commands.{request_of}
 use Rattle.lat_session.specs.Outcomes.{Operations, HasOutcome}
-use Rattle.lat_playing.specs.Worlds.{SessionState, World, new_session, session_at, HasLine, Happens, Runs}
+use Rattle.lat_playing.specs.Worlds.{SessionState, World, new_session, session_at, rest_from, HasLine, Happens, Runs}
 use Rattle.lat_playing.specs.Worlds.HasLine.{change as enters, read as asks}
 use Rattle.lat_playing.specs.Worlds.Happens.{plays}
 use Rattle.lat_playing.specs.Answered.{IsAnswered, AreAnswered}
 use Rattle.lat_playing.specs.Answered.IsAnswered.{change, read}
+use Rattle.lat_playing.specs.Turns.{IsTurn, AreTurns}
 use Rattle.lat_playing.specs.Theorems.{reply_of, changes_of, own_entries_from}
 use Rattle.lat_playing.specs.PrivateWorlds.{lines_at}
 use Rattle.lat_playing.proofs.WorldEvents.{not_both, first_same, rest_same, runs_both}
@@ -177,7 +178,8 @@ module _ (edition : lattices.Edition) (operations : Operations) (history : List 
       → AreAnswered edition operations n history (session_at w.sessions n).variables
       (l.mark + 1) cs ls
       → changes_of (l ∷ ls) ≡ own_entries_from n (length w.history) (e ∷ later)
-      → (v : World) × Goes n w v later
+      → (v : World) × (v.history ≡ w.history ++ record { session = n; request = request; reply = reply } ∷ [])
+      × Goes n w v later
   unfolding after_line
   change_event n w e later c cs l ls request reply C own inside next joined requested changed at answers changes =
       let s = session_at w.sessions n in
@@ -197,6 +199,7 @@ module _ (edition : lattices.Edition) (operations : Operations) (history : List 
       let long : suc k ≡ length h = omega (arith, length-append w.history (x ∷ [])) in
       let whole : history ≡ h ++ later = C.whole ∙ ap (λ y. w.history ++ y ∷ later) entry ∙ sym (append_assoc w.history (x ∷ []) later) in (
         record { history = h; sessions = set w.sessions n (after_line n w s.variables (k + 1) cs l) },
+        refl,
         one_event n w (e ∷ later) later c cs l ls h (after_line n w s.variables (k + 1) cs l) C inside next refl
             (append_assoc s.lines (l ∷ []) ls ∙ joined) line whole (omega (arith, long)) (omega (arith, long))
             (subst (λ m. AreAnswered edition operations n history s.variables (m + 1) cs ls) place answers)
@@ -217,50 +220,83 @@ module _ (edition : lattices.Edition) (operations : Operations) (history : List 
   none_to_come n v f (l ∷ ls) a = absurd a
 
   -- ---- up to and with the change that is the next entry
+  -- what comes of a turn of session n
+  record Turned (n : ℕ) (w : World) (later : List Entry) : Type 0 where
+    pub on : GoesOn w later
+    pub is_turn : IsTurn edition operations n w on.world
+
   turn_line : (n : ℕ) (e : Entry) (later : List Entry) (c : Command) (cs : List Command)
       (w : World) → AreComing w (e ∷ later) → e.session ≡ n → n < length w.sessions
       → (session_at w.sessions n).left ≡ c ∷ cs
       → ((u : World) → AreComing u (e ∷ later) → n < length u.sessions
-      → (session_at u.sessions n).left ≡ cs → GoesOn u later)
+      → (session_at u.sessions n).left ≡ cs → Turned n u later)
       → (session_at w.sessions n).front ≤ length w.history
       → (l : Line) (ls : List Line) (v : Variables) (f : ℕ) → lines_at w n ++ l ∷ ls ≡ lines n
       → IsAnswered edition operations n history (session_at w.sessions n).variables
       (session_at w.sessions n).front c l v f
       → AreAnswered edition operations n history v f cs ls
-      → changes_of (l ∷ ls) ≡ own_entries_from n (length w.history) (e ∷ later) → GoesOn w later
+      → changes_of (l ∷ ls) ≡ own_entries_from n (length w.history) (e ∷ later) → Turned n w later
   turn_line n e later c cs w C own inside next go within l ls v f joined (change {request} {reply} requested changed beyond at) more changes =
-      let (u, G) = change_event n w e later c cs l ls request reply C own inside next joined requested changed at more changes in
-      record { events = n ∷ []; world = u; runs = (u, G.happens, refl); coming = G.coming; same = G.same }
+      let (u, entered, G) = change_event n w e later c cs l ls request reply C own inside next joined requested changed at more changes in
+      record {
+        on = record {
+          events = n ∷ [];
+          world = u;
+          runs = (u, G.happens, refl);
+          coming = G.coming;
+          same = G.same;
+        };
+        is_turn = record {
+          reads = 0;
+          before = w;
+          quiet = refl;
+          no_entry = refl;
+          entry = record { session = n; request = request; reply = reply };
+          change = G.happens;
+          entered = entered;
+        };
+      }
   turn_line n e later c cs w C own inside next go within l ls v f joined (read {L} {after} none mark seen has) more changes =
       let t = after_line n w after (session_at w.sessions n).front cs l in
       let u : World = record { history = w.history; sessions = set w.sessions n t } in
       let G : Goes n w u (e ∷ later) = read_event n w (e ∷ later) c cs l ls L after C inside next within joined none mark seen has more changes in
-      let on : GoesOn u later = go u G.coming (omega (arith, inside, G.same)) (left_after n w after (session_at w.sessions n).front cs l inside) in
+      let T : Turned n u later = go u G.coming (omega (arith, inside, G.same)) (left_after n w after (session_at w.sessions n).front cs l inside) in
       record {
-        events = n ∷ on.events;
-        world = on.world;
-        runs = (u, G.happens, on.runs);
-        coming = on.coming;
-        same = on.same ∙ G.same;
+        on = record {
+          events = n ∷ T.on.events;
+          world = T.on.world;
+          runs = (u, G.happens, T.on.runs);
+          coming = T.on.coming;
+          same = T.on.same ∙ G.same;
+        };
+        is_turn = record {
+          reads = suc T.is_turn.reads;
+          before = T.is_turn.before;
+          quiet = (u, G.happens, T.is_turn.quiet);
+          no_entry = T.is_turn.no_entry;
+          entry = T.is_turn.entry;
+          change = T.is_turn.change;
+          entered = T.is_turn.entered;
+        };
       }
 
   turn_lines : (n : ℕ) (e : Entry) (later : List Entry) (c : Command) (cs : List Command)
       (w : World) → AreComing w (e ∷ later) → e.session ≡ n → n < length w.sessions
       → (session_at w.sessions n).left ≡ c ∷ cs
       → ((u : World) → AreComing u (e ∷ later) → n < length u.sessions
-      → (session_at u.sessions n).left ≡ cs → GoesOn u later)
+      → (session_at u.sessions n).left ≡ cs → Turned n u later)
       → (session_at w.sessions n).front ≤ length w.history
       → (to_come : List Line) → lines_at w n ++ to_come ≡ lines n
       → AreAnswered edition operations n history (session_at w.sessions n).variables
       (session_at w.sessions n).front (c ∷ cs) to_come
-      → changes_of to_come ≡ own_entries_from n (length w.history) (e ∷ later) → GoesOn w later
+      → changes_of to_come ≡ own_entries_from n (length w.history) (e ∷ later) → Turned n w later
   turn_lines n e later c cs w C own inside next go within [] joined answers changes = absurd answers
   turn_lines n e later c cs w C own inside next go within (l ∷ ls) joined (v, f, one, more) changes =
       turn_line n e later c cs w C own inside next go within l ls v f joined one more changes
 
   turn : (n : ℕ) (e : Entry) (later : List Entry) (left : List Command) (w : World)
       → AreComing w (e ∷ later) → e.session ≡ n → n < length w.sessions
-      → (session_at w.sessions n).left ≡ left → GoesOn w later
+      → (session_at w.sessions n).left ≡ left → Turned n w later
   turn n e later [] w C own inside none =
       let s = session_at w.sessions n in
       let S = C.each n inside in
@@ -274,48 +310,59 @@ module _ (edition : lattices.Edition) (operations : Operations) (history : List 
       turn_lines n e later c cs w C own inside next (λ u D i m. turn n e later cs u D own i m) S.within S.to_come S.joined
       (subst (λ ds. AreAnswered edition operations n history s.variables s.front ds S.to_come) next S.answers) S.changes
 
+  -- what comes of the turns of the sessions whose entries are left
+  pub record AllTurned (w : World) (later : List Entry) : Type 0 where
+    pub on : GoesOn w []
+    pub are_turns : AreTurns edition operations (map (λ (e : Entry). e.session) later) w on.world
+
   -- **the turns of the sessions whose entries are left, in their order**
   pub turns : (later : List Entry) (w : World) → AreComing w later
-      → All (λ (e : Entry). e.session < length w.sessions) later → GoesOn w []
-  turns [] w C within = record { events = []; world = w; runs = refl; coming = C; same = refl }
+      → All (λ (e : Entry). e.session < length w.sessions) later → AllTurned w later
+  turns [] w C within = record {
+    on = record { events = []; world = w; runs = refl; coming = C; same = refl };
+    are_turns = refl;
+  }
   turns (e ∷ later) w C within =
       let n = e.session in
       let inside : n < length w.sessions = All-head (λ (x : Entry). x.session < length w.sessions) e later within in
-      let T : GoesOn w later = turn n e later (session_at w.sessions n).left w C refl inside refl in
-      let others : All (λ (x : Entry). x.session < length T.world.sessions) later = subst (λ k. All (λ (x : Entry). x.session < k) later) (sym T.same)
+      let T : Turned n w later = turn n e later (session_at w.sessions n).left w C refl inside refl in
+      let others : All (λ (x : Entry). x.session < length T.on.world.sessions) later = subst (λ k. All (λ (x : Entry). x.session < k) later) (sym T.on.same)
       (All-tail (λ (x : Entry). x.session < length w.sessions) e later within) in
-      let R : GoesOn T.world [] = turns later T.world T.coming others in
+      let R : AllTurned T.on.world later = turns later T.on.world T.on.coming others in
       record {
-        events = T.events ++ R.events;
-        world = R.world;
-        runs = runs_both edition operations T.events R.events w T.world R.world T.runs R.runs;
-        coming = R.coming;
-        same = R.same ∙ T.same;
+        on = record {
+          events = T.on.events ++ R.on.events;
+          world = R.on.world;
+          runs = runs_both edition operations T.on.events R.on.events w T.on.world R.on.world T.on.runs R.on.runs;
+          coming = R.on.coming;
+          same = R.on.same ∙ T.on.same;
+        };
+        are_turns = (T.on.world, T.is_turn, R.are_turns);
       }
 
   -- ---- where no entry is left
-  -- session n has no command left, and the others are as before
-  record Ends (n : ℕ) (w : World) : Type 0 where
+  -- session n has played all that was left to it, and the others are as before
+  record Ends (n : ℕ) (left : List Command) (w : World) : Type 0 where
     pub on : GoesOn w []
-    pub none : (session_at on.world.sessions n).left ≡ []
+    pub count : on.events ≡ replicate (length left) n
     pub others : (k : ℕ) → (k ≡ n → ⊥) → session_at on.world.sessions k ≡ session_at w.sessions k
 
   end_line : (n : ℕ) (c : Command) (cs : List Command) (w : World) → AreComing w []
       → n < length w.sessions → (session_at w.sessions n).left ≡ c ∷ cs
       → ((u : World) → AreComing u [] → n < length u.sessions
-      → (session_at u.sessions n).left ≡ cs → Ends n u)
+      → (session_at u.sessions n).left ≡ cs → Ends n cs u)
       → (session_at w.sessions n).front ≤ length w.history
       → (l : Line) (ls : List Line) (v : Variables) (f : ℕ) → lines_at w n ++ l ∷ ls ≡ lines n
       → IsAnswered edition operations n history (session_at w.sessions n).variables
       (session_at w.sessions n).front c l v f
-      → AreAnswered edition operations n history v f cs ls → changes_of (l ∷ ls) ≡ [] → Ends n w
+      → AreAnswered edition operations n history v f cs ls → changes_of (l ∷ ls) ≡ [] → Ends n (c ∷ cs) w
   end_line n c cs w C inside next go within l ls v f joined (change {request} {reply} requested changed beyond at) more changes =
       absurd (not_both (changes_of (l ∷ ls)) (l.mark, reply) (changes_of ls) changes (change_line l reply ls changed))
   end_line n c cs w C inside next go within l ls v f joined (read {L} {after} none mark seen has) more changes =
       let t = after_line n w after (session_at w.sessions n).front cs l in
       let u : World = record { history = w.history; sessions = set w.sessions n t } in
       let G : Goes n w u [] = read_event n w [] c cs l ls L after C inside next within joined none mark seen has more changes in
-      let end : Ends n u = go u G.coming (omega (arith, inside, G.same)) (left_after n w after (session_at w.sessions n).front cs l inside) in
+      let end : Ends n cs u = go u G.coming (omega (arith, inside, G.same)) (left_after n w after (session_at w.sessions n).front cs l inside) in
       record {
         on = record {
           events = n ∷ end.on.events;
@@ -324,27 +371,27 @@ module _ (edition : lattices.Edition) (operations : Operations) (history : List 
           coming = end.on.coming;
           same = end.on.same ∙ G.same;
         };
-        none = end.none;
+        count = ap (λ events. n ∷ events) end.count;
         others = λ k other. end.others k other ∙ G.others k other;
       }
 
   end_lines : (n : ℕ) (c : Command) (cs : List Command) (w : World) → AreComing w []
       → n < length w.sessions → (session_at w.sessions n).left ≡ c ∷ cs
       → ((u : World) → AreComing u [] → n < length u.sessions
-      → (session_at u.sessions n).left ≡ cs → Ends n u)
+      → (session_at u.sessions n).left ≡ cs → Ends n cs u)
       → (session_at w.sessions n).front ≤ length w.history
       → (to_come : List Line) → lines_at w n ++ to_come ≡ lines n
       → AreAnswered edition operations n history (session_at w.sessions n).variables
-      (session_at w.sessions n).front (c ∷ cs) to_come → changes_of to_come ≡ [] → Ends n w
+      (session_at w.sessions n).front (c ∷ cs) to_come → changes_of to_come ≡ [] → Ends n (c ∷ cs) w
   end_lines n c cs w C inside next go within [] joined answers changes = absurd answers
   end_lines n c cs w C inside next go within (l ∷ ls) joined (v, f, one, more) changes =
       end_line n c cs w C inside next go within l ls v f joined one more changes
 
   end_session : (n : ℕ) (left : List Command) (w : World) → AreComing w []
-      → n < length w.sessions → (session_at w.sessions n).left ≡ left → Ends n w
+      → n < length w.sessions → (session_at w.sessions n).left ≡ left → Ends n left w
   end_session n [] w C inside none = record {
     on = record { events = []; world = w; runs = refl; coming = C; same = refl };
-    none = none;
+    count = refl;
     others = λ k other. refl;
   }
   end_session n (c ∷ cs) w C inside next =
@@ -353,31 +400,37 @@ module _ (edition : lattices.Edition) (operations : Operations) (history : List 
       end_lines n c cs w C inside next (λ u D i m. end_session n cs u D i m) S.within S.to_come S.joined
       (subst (λ ds. AreAnswered edition operations n history s.variables s.front ds S.to_come) next S.answers) S.changes
 
-  -- **all sessions play what is left to them**
-  pub record AllEnd (w : World) : Type 0 where
-    pub on : GoesOn w []
-    pub none : (k : ℕ) → k < length w.sessions → (session_at on.world.sessions k).left ≡ []
+  -- what comes of the sessions from n on that play what is left to them
+  pub record AllEnd (n : ℕ) (counts : List ℕ) (w : World) : Type 0 where
+    pub world : World
+    pub runs : Runs edition operations (rest_from n counts) w world
+    pub coming : AreComing world []
+    pub same : length world.sessions ≡ length w.sessions
 
-  pub end_below : (j : ℕ) (w : World) → AreComing w [] → j ≤ length w.sessions
-      → ((k : ℕ) → j ≤ k → k < length w.sessions → (session_at w.sessions k).left ≡ [])
-      → AllEnd w
-  end_below zero w C within done = record {
-    on = record { events = []; world = w; runs = refl; coming = C; same = refl };
-    none = λ k i. done k (omega arith) i;
-  }
-  end_below (suc j) w C within done =
-      let E : Ends j w = end_session j (session_at w.sessions j).left w C within refl in
-      let A : AllEnd E.on.world = end_below j E.on.world E.on.coming (omega (arith, within, E.on.same)) (λ k low i. elim (cases_eq k j) [
-        | inl same ↦ subst (λ m. (session_at E.on.world.sessions m).left ≡ []) (sym same) E.none
-        | inr other ↦ ap (λ (s : SessionState). s.left) (E.others k other) ∙ done k (omega (arith, low, other)) (omega (arith, i, E.on.same))
-      ]) in
+  -- **session after session plays what is left to it**
+  pub end_from : (counts : List ℕ) (n : ℕ) (w : World) → AreComing w []
+      → n + length counts ≡ length w.sessions
+      → ((j : ℕ) → j < length counts
+      → slice_index_or counts j 0 ≡ length (session_at w.sessions (n + j)).left)
+      → AllEnd n counts w
+  end_from [] n w C all left = record { world = w; runs = refl; coming = C; same = refl }
+  end_from (count ∷ counts) n w C all left =
+      let E : Ends n (session_at w.sessions n).left w = end_session n (session_at w.sessions n).left w C (omega (arith, all)) refl in
+      let at : n + 0 ≡ n = omega arith in
+      let here : count ≡ length (session_at w.sessions n).left = subst (λ k. count ≡ length (session_at w.sessions k).left) at (left 0 (omega arith)) in
+      let runs : Runs edition operations (replicate count n) w E.on.world = subst (λ k. Runs edition operations (replicate k n) w E.on.world) (sym here)
+      (subst (λ events. Runs edition operations events w E.on.world) E.count E.on.runs) in
+      let A : AllEnd (suc n) counts E.on.world = end_from counts (suc n) E.on.world E.on.coming (omega (arith, all, E.on.same))
+      (λ j l.
+      let k : ℕ = suc n + j in
+      let own : slice_index_or counts j 0 ≡ length (session_at w.sessions (n + suc j)).left = left (suc j) (omega (arith, l)) in
+      let place : n + suc j ≡ k = omega arith in
+      let at : slice_index_or counts j 0 ≡ length (session_at w.sessions k).left = subst (λ i. slice_index_or counts j 0 ≡ length (session_at w.sessions i).left) place own in
+      let same : session_at E.on.world.sessions k ≡ session_at w.sessions k = E.others k (λ e. absurd (omega (arith, e))) in
+      subst (λ (s : SessionState). slice_index_or counts j 0 ≡ length s.left) (sym same) at) in
       record {
-        on = record {
-          events = E.on.events ++ A.on.events;
-          world = A.on.world;
-          runs = runs_both edition operations E.on.events A.on.events w E.on.world A.on.world E.on.runs A.on.runs;
-          coming = A.on.coming;
-          same = A.on.same ∙ E.on.same;
-        };
-        none = λ k i. A.none k (omega (arith, i, E.on.same));
+        world = A.world;
+        runs = runs_both edition operations (replicate count n) (rest_from (suc n) counts) w E.on.world A.world runs A.runs;
+        coming = A.coming;
+        same = omega (arith, A.same, E.on.same);
       }

@@ -151,7 +151,7 @@ module _ (edition : lattices.Edition) (operations : Operations) where
   new_no_lines front (s ∷ scripts) zero = refl
   new_no_lines front (s ∷ scripts) (suc n) = new_no_lines front scripts n
 
-  open_lines : (script : Script) (w : World) (n : ℕ)
+  pub open_lines : (script : Script) (w : World) (n : ℕ)
       → lines_at (open_sessions script w) n ≡ lines_at w n
   open_lines script w n =
       let new = map (λ (s : SessionScript). new_session (length w.history) s.commands) script.sessions in

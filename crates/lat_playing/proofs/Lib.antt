@@ -11,3 +11,4 @@ pub mod ScriptLaws
 pub mod AnsweredSessions
 pub mod AnsweredWorlds
 pub mod AnsweredScripts
+pub mod TurnedWorlds

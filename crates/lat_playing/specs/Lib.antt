@@ -1,5 +1,6 @@
 pub mod Worlds
 pub mod Transcripts
+pub mod Turns
 pub mod Plays
 pub mod PrivatePlays
 pub mod PrivateTranscripts

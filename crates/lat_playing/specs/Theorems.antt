@@ -20,6 +20,7 @@ use Rattle.lat_session.specs.Outcomes.{Operations, KeepsValues}
 use Rattle.lat_playing.specs.Worlds.{SessionState, World, session_at, only_prologue, rest, Runs, IsWorld, IsSolo}
 use Rattle.lat_playing.specs.Answered.{AreAnswered, commands_of, opening_front}
 use Rattle.lat_playing.specs.Transcripts.{IsTranscript, IsFair}
+use Rattle.lat_playing.specs.Turns.{IsByPlaces}
 use Rattle.lat_playing.specs.Plays.{IsPlayable}
 
 -- After the same events a script has one world.
@@ -137,4 +138,16 @@ AnsweredSessionsAreWorld = (edition : lattices.Edition) (operations : Operations
 abbrev pub SoloIsFair : Type 0
 SoloIsFair = (edition : lattices.Edition) (operations : Operations) (script : Script)
     (text : List ℕ) → IsTranscript edition operations script text
+    → IsFair edition operations script text
+
+-- The transcript of sessions in some order is the one that is read off its places.
+abbrev pub FairIsByPlaces : Type 0
+FairIsByPlaces = (edition : lattices.Edition) (operations : Operations) (script : Script)
+    (text : List ℕ) → IsFair edition operations script text
+    → IsByPlaces edition operations script text
+
+-- And the one that is read off its places is one of the sessions in some order.
+abbrev pub PlacesAreFair : Type 0
+PlacesAreFair = (edition : lattices.Edition) (operations : Operations) (script : Script)
+    (text : List ℕ) → IsByPlaces edition operations script text
     → IsFair edition operations script text
