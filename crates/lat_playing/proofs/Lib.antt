@@ -12,4 +12,3 @@ pub mod AnsweredSessions
 pub mod AnsweredWorlds
 pub mod AnsweredScripts
 pub mod TurnedWorlds
-pub mod OrderedChanges
