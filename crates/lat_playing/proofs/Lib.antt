@@ -12,3 +12,4 @@ pub mod AnsweredSessions
 pub mod AnsweredWorlds
 pub mod AnsweredScripts
 pub mod TurnedWorlds
+pub mod OrderedChanges

@@ -3,7 +3,8 @@
 --     reply_of outcome        the reply to a change
 --     changes_of lines        the marks and the replies of the changes among the lines
 --     own_entries n history   the places and the replies of the entries of session n
-use Rattle.std.specs.Prelude.{◌≡◌, ℕ, suc, ◌+◌, ◌==◌, if◌then◌else◌, List, [], ◌∷◌, ◌++◌, length, map, filter_map, All, Option, Some, None}
+use Rattle.std.specs.Prelude.{◌≡◌, ℕ, suc, ◌+◌, ◌==◌, if◌then◌else◌, List, [], ◌∷◌, ◌++◌, length, map, filter_map, slice_get, All, Option, Some, None}
+use Rattle.std.specs.List.{Contains}
 use Rattle.std.specs.Option.{option_map}
 use Rattle.std.specs.FinMap.{empty}
 use Rattle.alg_model.specs.Lattices as lattices
@@ -20,7 +21,7 @@ use Rattle.lat_session.specs.Outcomes.{Operations, KeepsValues}
 use Rattle.lat_playing.specs.Worlds.{SessionState, World, session_at, only_prologue, rest, Runs, IsWorld, IsSolo}
 use Rattle.lat_playing.specs.Answered.{AreAnswered, commands_of, opening_front}
 use Rattle.lat_playing.specs.Transcripts.{IsTranscript, IsFair}
-use Rattle.lat_playing.specs.Turns.{IsByPlaces}
+use Rattle.lat_playing.specs.Turns.{order_from, IsByPlaces}
 use Rattle.lat_playing.specs.Plays.{IsPlayable}
 
 -- After the same events a script has one world.
@@ -151,3 +152,15 @@ abbrev pub PlacesAreFair : Type 0
 PlacesAreFair = (edition : lattices.Edition) (operations : Operations) (script : Script)
     (text : List ℕ) → IsByPlaces edition operations script text
     → IsFair edition operations script text
+
+-- That order is read off the lines: from some place on, the entry at k is one of session n where a
+-- line of this session is a change with this mark.
+abbrev pub OrderIsByMarks : Type 0
+OrderIsByMarks = (edition : lattices.Edition) (operations : Operations) (script : Script)
+    (events : List ℕ) (w : World) → IsWorld edition operations script events w
+    → (place k n : ℕ)
+    → (slice_get (order_from place w.history) k ≡ Some n
+    → (reply : Reply) × Contains (changes_of (session_at w.sessions n).lines) (place + k, reply))
+    × ((reply : Reply)
+    → Contains (changes_of (session_at w.sessions n).lines) (place + k, reply)
+    → slice_get (order_from place w.history) k ≡ Some n)

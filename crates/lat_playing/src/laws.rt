@@ -6,7 +6,7 @@ ghost use Rattle.lat_playing.specs.Theorems.{ScriptHasWorld, ScriptHasTranscript
 ghost use Rattle.lat_playing.specs.Theorems.{SoloIsFinished, SoloIsWorld, SoloIsFair};
 ghost use Rattle.lat_playing.specs.Theorems.{HistoryHoldsChanges, HistoryIsLegal};
 ghost use Rattle.lat_playing.specs.Theorems.{LinesAnswerCommands, AnsweredSessionsAreWorld};
-ghost use Rattle.lat_playing.specs.Theorems.{FairIsByPlaces, PlacesAreFair};
+ghost use Rattle.lat_playing.specs.Theorems.{FairIsByPlaces, PlacesAreFair, OrderIsByMarks};
 
 /// A playable script has at most one world after the same events, and at most one transcript,
 /// where the operations give values of the fields of their operands.
@@ -56,8 +56,9 @@ pub fn answered_sessions_are_worlds()
 
 /// The transcripts of sessions in some order are those that are read off their places: after the
 /// prologue the sessions take turns, each up to and with its next entry, in the order of the
-/// entries; then each plays what is left to it.
+/// entries; then each plays what is left to it. That order is read off the marks of the changes.
 pub fn fair_transcripts_are_by_places()
     ensures by_places { FairIsByPlaces }
     ensures fair { PlacesAreFair }
+    ensures order { OrderIsByMarks }
 {}
