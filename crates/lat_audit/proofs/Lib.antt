@@ -1,3 +1,12 @@
 pub mod SortedEntries
 pub mod StoredMaps
 pub mod DumpedLines
+pub mod LineWords
+pub mod ReadRows
+pub mod ReadLines
+pub mod ReadMaps
+pub mod PairPlaces
+pub mod RuleMaps
+pub mod RuleOrders
+pub mod RuleDegrees
+pub mod RuleFaults

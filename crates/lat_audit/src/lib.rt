@@ -1,10 +1,24 @@
-//! Dumps: the text of a lattice.
+//! Dumps: the text of a lattice, and the verdict on a text that is meant to be one.
 #![tactic(auto)]
 
+mod contents;
+mod cuts;
 mod dumps;
+mod faults;
+mod fields;
+mod line_forms;
 mod lines;
+mod maps;
+mod readings;
+mod rules;
+mod tables;
+mod verdicts;
 
 pub use dumps::write_dump;
+pub use line_forms::MAX_MAPS;
+pub use verdicts::{AuditVerdict, audit};
 
+#[cfg(test)]
+mod audit_tests;
 #[cfg(test)]
 mod tests;
