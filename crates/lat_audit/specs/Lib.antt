@@ -1,8 +1,10 @@
 pub mod Dumps
+pub mod PrivateContents
 pub mod PrivateDumps
 pub mod PrivateFaults
 pub mod PrivateReadings
 pub mod PrivateRules
 pub mod PrivateTables
 pub mod Readings
+pub mod Theorems
 pub mod Verdicts

@@ -6,6 +6,7 @@ mod cuts;
 mod dumps;
 mod faults;
 mod fields;
+mod laws;
 mod line_forms;
 mod lines;
 mod maps;
@@ -15,6 +16,7 @@ mod tables;
 mod verdicts;
 
 pub use dumps::write_dump;
+pub use laws::{dump_is_good, one_spelling, one_verdict, some_verdict};
 pub use line_forms::MAX_MAPS;
 pub use verdicts::{AuditVerdict, audit};
 

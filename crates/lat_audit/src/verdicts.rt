@@ -1,5 +1,9 @@
 //! The verdict on a text.
 
+ghost use Rattle.std.specs.Prelude.{◌≡◌, ◌<◌, length};
+ghost use Rattle.lat_audit.specs.declared.verdicts.AuditVerdict.TheVariants.{NoMemory as no_memory};
+ghost use Rattle.lat_audit.specs.Verdicts.{Judges};
+
 use crate::contents::Content;
 use crate::faults::Fault;
 use crate::fields::judge_fields;
@@ -64,7 +68,10 @@ fn judge_text(alloc: Global, text: &[u8]) -> Result<Lattice, Fault> {
 
 /// The verdict on a text, which is meant to be a dump of a lattice of the first edition: the one
 /// lattice whose dump it is, or else its first fault: of a line, of a field, of a map, of a rule.
-pub fn audit(alloc: Global, text: &[u8]) -> AuditVerdict {
+pub fn audit(alloc: Global, text: &[u8]) -> AuditVerdict
+    ensures verdict { Judges text.now result }
+    ensures some { result ≡ no_memory → 0 < length text.now }
+{
     match judge_text(alloc, text) {
         Ok(lattice) => AuditVerdict::Good(lattice),
         Err(fault) => verdict_of(fault),
