@@ -72,12 +72,12 @@ behind_told [] (x ∷ text) = told_as
     (cases_eq x 32)
 behind_told (w ∷ word) [] = inr (λ h. let e : [] ≡ w ∷ (word ++ 32 ∷ h.0) = h.1 in cc)
 behind_told (w ∷ word) (x ∷ text) = told_as
-    (λ (p, rest, q). (rest, λ i. p i ∷ q i))
+    (λ (p, (rest, q)). (rest, λ i. p i ∷ q i))
     (λ h.
     let e : x ∷ text ≡ w ∷ (word ++ 32 ∷ h.0) = h.1 in
     let p : x ≡ w = cc in
     let q : text ≡ word ++ 32 ∷ h.0 = cc in
-    (p, h.0, q))
+    (p, (h.0, q)))
     (both_told (cases_eq x w) (behind_told word text))
 
 behind_one : (word text a b : List ℕ) → IsBehind word text a → IsBehind word text b → a ≡ b
@@ -146,21 +146,21 @@ Tail text = (k : ℕ × List ℕ) × (text ≡ decimal k.0 ++ 32 ∷ digits_text
 small_characteristic : (p : ℕ) (f : List ℕ) → IsWellFormed first_edition p f → p < 32
 small_characteristic p f w = characteristic_small p w.characteristic
 
+abbrev Formed : List ℕ → ℕ → Type 0
+Formed d p = (f : List ℕ) × ((d ≡ digits_text f) × AreDigits f) × IsWellFormed first_edition p f
+
 tail_cut : (text c d : List ℕ) → IsCut 32 text c d → Decided (Tail text)
 tail_cut text c d cut = told_as
-    (λ (p, e, f, g, w). ((p, f), cut.0 ∙ (λ i. e.0 i ++ 32 ∷ g.0 i), w))
+    (λ (p, e, (f, g, w)). ((p, f), cut.0 ∙ (λ i. e.0 i ++ 32 ∷ g.0 i), w))
     (λ (k, e, w). back k.0 k.1 e w)
-    (found_then (λ p. (c ≡ decimal p) × (p < 32)) Rest one
+    (found_then (λ p. (c ≡ decimal p) × (p < 32)) (Formed d) one
     (λ p e. digits_then d (λ f. IsWellFormed first_edition p f) (formed_told p)) (decide_number c 32))
   where
-    abbrev Rest : ℕ → Type 0
-    Rest p = (f : List ℕ) × ((d ≡ digits_text f) × AreDigits f) × IsWellFormed first_edition p f
-
     one : (p q : ℕ) → (c ≡ decimal p) × (p < 32) → (c ≡ decimal q) × (q < 32) → p ≡ q
     one p q h k = decimal_injective p q (omega (arith, h.1)) (omega (arith, k.1)) (sym h.0 ∙ k.0)
 
     back : (p : ℕ) (f : List ℕ) → text ≡ decimal p ++ 32 ∷ digits_text f
-        → IsWellFormed first_edition p f → (p : ℕ) × ((c ≡ decimal p) × (p < 32)) × Rest p
+        → IsWellFormed first_edition p f → (p : ℕ) × ((c ≡ decimal p) × (p < 32)) × Formed d p
     back p f e w =
         let small = small_characteristic p f w in
         let same = one_cut 32 c (decimal p) d (digits_text f) cut.1 (decimal_lacks p (omega (arith, small))) (sym cut.0 ∙ e) in
@@ -188,11 +188,11 @@ module _ (rows : List Row) where
   declared_told text = ⊎_elim
       (λ (a, r, cut). told_as
       (λ h. (a, h.0, (r, cut.0, h.1)))
-      (λ (name, free, rest, e, t).
+      (λ (name, free, (rest, e, t)).
       let same = one_cut 32 a name r rest cut.1 (declared_lacks name free.0) (sym cut.0 ∙ e) in
       (subst IsFree (sym same.0) free, subst Tail (sym same.1) t))
       (both_told (free_told a) (tail_told r)))
-      (λ none. inr (λ (name, free, rest, e, t). not_cut 32 name rest (subst (Lacks 32) e none)))
+      (λ none. inr (λ (name, free, (rest, e, t)). not_cut 32 name rest (subst (Lacks 32) e none)))
       (cut_or_lacks 32 text)
 
   abbrev Named : List ℕ → Type 0
@@ -215,9 +215,12 @@ module _ (rows : List Row) where
   abbrev Numbered : List ℕ → Type 0
   Numbered text = (rest : List ℕ) × IsBehind (decimal (length rows)) text rest × Named rest
 
+  abbrev FieldWords : List ℕ → Type 0
+  FieldWords l = (a : List ℕ) × IsBehind (codes "field") l a × Numbered a
+
   new_row_told : (line : List ℕ) → Decided (NewRow line)
   new_row_told line = told_as
-      (λ (l, e, a, f, b, g, (name, new, rest, h, (k, t, w))). (
+      (λ (l, e, (a, f, (b, g, (name, new, (rest, h, (k, t, w)))))). (
         record { name = name; field = record { characteristic = k.0; polynomial = k.1 } },
         e ∙ line_from_words l (codes "field" ∷ decimal (length rows) ∷ name ∷ decimal k.0 ∷ digits_text k.1 ∷ [])
             (f ∙ ap (λ u. codes "field" ++ 32 ∷ u) (g ∙ ap (λ u. decimal (length rows) ++ 32 ∷ u)
@@ -225,24 +228,26 @@ module _ (rows : List Row) where
         (new, w),
       ))
       (λ (row, e, new). back row e new)
-      (ended_then line (λ l. (a : List ℕ) × IsBehind (codes "field") l a × Numbered a)
+      (ended_then line FieldWords
       (λ l. behind_then (codes "field") l Numbered
       (λ a. behind_then (decimal (length rows)) a Named named_told)))
     where
       back : (row : Row) → line ≡ field_line (length rows) row → IsNewRow rows row
-          → (l : List ℕ) × (line ≡ ended l) × (a : List ℕ) × IsBehind (codes "field") l a × Numbered a
+          → (l : List ℕ) × (line ≡ ended l) × FieldWords l
       back row e new =
           let words = codes "field" ∷ decimal (length rows) ∷ row.name ∷ decimal row.field.characteristic
               ∷ digits_text row.field.polynomial ∷ [] in
           let tail = decimal row.field.characteristic ++ 32 ∷ digits_text row.field.polynomial in (
             join_with_byte 32 words,
             e ∙ sym (line_from_words (join_with_byte 32 words) words refl),
-            decimal (length rows) ++ 32 ∷ (row.name ++ 32 ∷ tail),
-            refl,
             (
-              row.name ++ 32 ∷ tail,
+              decimal (length rows) ++ 32 ∷ (row.name ++ 32 ∷ tail),
               refl,
-              (row.name, new.0, (tail, refl, ((row.field.characteristic, row.field.polynomial), refl, new.1))),
+              (
+                row.name ++ 32 ∷ tail,
+                refl,
+                (row.name, new.0, (tail, refl, ((row.field.characteristic, row.field.polynomial), refl, new.1))),
+              ),
             ),
           )
 
@@ -256,12 +261,12 @@ row_told rows line = ⊎_elim
     (λ e. (row, e, inl (few, refl)))
     (λ (r, e, next). ⊎_elim
     (λ (l, same). e ∙ ap (field_line (length rows)) same)
-    (λ (many, new). omega (arith, few, many)) next)
+    (λ (many, new). absurd (omega (arith, few, many))) next)
     (same_text line (field_line (length rows) row)))
     (λ many. told_as
     (λ (r, e, new). (r, e, inr (many, new)))
     (λ (r, e, next). ⊎_elim
-    (λ (few, same). omega (arith, few, many))
+    (λ (few, same). absurd (omega (arith, few, many)))
     (λ (m, new). (r, e, new)) next)
     (new_row_told rows line))
     (cases_lt (length rows) (length first_edition.primes))
@@ -288,40 +293,45 @@ module _ (rows : List Row) (images : List Image) (line : List ℕ)
   abbrev Between : ℕ → ℕ → Type 0
   Between i j = (v : List ℕ) × (line ≡ map_line (i, j) v) × Follows i j v
 
+  abbrev MapWords : ℕ → ℕ → List ℕ → Type 0
+  MapWords i j l = (a : List ℕ) × IsBehind (codes "map") l a × From i j a
+
   between_told : (i j : ℕ) → j < length rows → Decided (Between i j)
   between_told i j within = told_as
-      (λ (l, e, a, f, b, g, c, h, v, k, follows). (
+      (λ (l, e, (a, f, (b, g, (c, h, (v, k, follows))))). (
         v,
         e ∙ line_from_words l (codes "map" ∷ decimal i ∷ decimal j ∷ digits_text v ∷ [])
             (f ∙ ap (λ u. codes "map" ++ 32 ∷ u) (g ∙ ap (λ u. decimal i ++ 32 ∷ u) (h ∙ ap (λ u. decimal j ++ 32 ∷ u) k.0))),
         follows,
       ))
       (λ (v, e, follows). back v e follows)
-      (ended_then line (λ l. (a : List ℕ) × IsBehind (codes "map") l a × From i j a)
+      (ended_then line (MapWords i j)
       (λ l. behind_then (codes "map") l (From i j)
       (λ a. behind_then (decimal i) a (Into i j)
       (λ b. behind_then (decimal j) b (Value i j)
       (λ c. digits_then c (Follows i j) (follows_told i j))))))
     where
       back : (v : List ℕ) → line ≡ map_line (i, j) v → Follows i j v
-          → (l : List ℕ) × (line ≡ ended l) × (a : List ℕ) × IsBehind (codes "map") l a × From i j a
+          → (l : List ℕ) × (line ≡ ended l) × MapWords i j l
       back v e follows =
           let words = codes "map" ∷ decimal i ∷ decimal j ∷ digits_text v ∷ [] in (
             join_with_byte 32 words,
             e ∙ sym (line_from_words (join_with_byte 32 words) words refl),
-            decimal i ++ 32 ∷ (decimal j ++ 32 ∷ digits_text v),
-            refl,
             (
-              decimal j ++ 32 ∷ digits_text v,
+              decimal i ++ 32 ∷ (decimal j ++ 32 ∷ digits_text v),
               refl,
-              (digits_text v, refl, (v, (refl, value_digits (field_at rows j) v (polys j within) follows.0), follows)),
+              (
+                decimal j ++ 32 ∷ digits_text v,
+                refl,
+                (digits_text v, refl, (v, (refl, value_digits (field_at rows j) v (polys j within) follows.0), follows)),
+              ),
             ),
           )
 
   -- an image that may stand behind the others
   pub image_told : Decided ((e : Image) × (line ≡ map_line e.0 e.1) × IsNextImage rows images e)
   image_told = told_as
-      (λ (i, li, j, lj, v, e, follows). (
+      (λ (i, li, (j, lj, (v, e, follows))). (
         ((i, j), v),
         e,
         record { source = li; target = lj; value = follows.0; rising = follows.1 },

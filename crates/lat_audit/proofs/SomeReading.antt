@@ -83,7 +83,7 @@ count_told low high line text = told_as
 
 leads : (place : Place) (line : List ℕ) → IsSound place → Leads place line
 leads Header line sound = told_as
-    (λ e. (FieldCount, e, refl)) (λ (next, e, is). e) (same_text line (header_line 1))
+    (λ e. (FieldCount, (e, refl))) (λ (next, h). h.0) (same_text line (header_line 1))
 leads FieldCount line sound = told_as
     (λ (n, e, a, b). (field_place n [], (n, e, a, b, refl)))
     (λ (next, h). (h.0, h.1, h.2, h.3))
@@ -101,7 +101,7 @@ leads (Map rows count images) line sound = told_as
     (λ (next, h). (h.0, h.1, h.2))
     (image_told rows images line (poly_at rows sound.0))
 leads (End c) line sound = told_as
-    (λ e. (Behind c, e, refl)) (λ (next, e, is). e) (same_text line end_line)
+    (λ e. (Behind c, (e, refl))) (λ (next, h). h.0) (same_text line end_line)
 leads (Behind c) line sound = inr (λ h. h.1)
 
 -- ---- readings
@@ -120,12 +120,14 @@ at_end (Behind c) n = (Ok c, inl (c, refl, refl))
 reading_from : (place : Place) (n : ℕ) (lines : List (List ℕ)) → IsSound place
     → SomeReading place n lines
 reading_from place n [] sound = at_end place n
-reading_from place n (line ∷ lines) sound = on (leads place line sound) where
-  on : Leads place line → SomeReading place n (line ∷ lines)
-  on (inl (next, h)) =
-      let more = reading_from next (n + 1) lines (sound_next place line next sound h) in
-      (more.0, inl (next, h, more.1))
-  on (inr none) = (Err n, inr (λ next h. none (next, h), refl))
+reading_from place n (line ∷ lines) sound =
+    on (leads place line sound) (λ next h. reading_from next (n + 1) lines (sound_next place line next sound h))
+  where
+    on : Leads place line
+        → ((next : Place) → LeadsTo place line next → SomeReading next (n + 1) lines)
+        → SomeReading place n (line ∷ lines)
+    on (inl (next, h)) more = ((more next h).0, inl (next, h, (more next h).1))
+    on (inr none) more = (Err n, inr (λ next h. none (next, h), refl))
 
 -- **a text is a dump in form, or has a first bad line**
 pub some_reading : (text : List ℕ)

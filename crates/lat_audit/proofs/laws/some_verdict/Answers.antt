@@ -1,5 +1,6 @@
 -- A text has a verdict.
 use Rattle.lat_audit.proofs.FiniteSearches.{number_or_none, pair_or_none, triple_or_none}
+use Rattle.lat_audit.proofs.SomeReading.{some_reading, dump_sound}
 use Rattle.lat_audit.proofs.laws.some_verdict.Goals as goal
 
 pub returns : goal.returns
