@@ -13,3 +13,5 @@ pub mod RuleFaults
 pub mod FiniteSearches
 pub mod LineDecisions
 pub mod SomeReading
+pub mod SomeFaults
+pub mod SomeRules
