@@ -15,3 +15,4 @@ pub mod LineDecisions
 pub mod SomeReading
 pub mod SomeFaults
 pub mod SomeRules
+pub mod SomeVerdict
