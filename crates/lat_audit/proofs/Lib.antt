@@ -15,4 +15,5 @@ pub mod LineDecisions
 pub mod SomeReading
 pub mod SomeFaults
 pub mod SomeRules
+pub mod HeldMaps
 pub mod SomeVerdict

@@ -14,6 +14,7 @@ use Rattle.lat_audit.specs.declared.verdicts.AuditVerdict.TheVariants.{Good, Bad
 use Rattle.lat_audit.proofs.FiniteSearches.{FirstOrNone}
 use Rattle.lat_audit.proofs.SomeReading.{ArePolys, AreWithin, poly_at, some_reading, dump_sound}
 use Rattle.lat_audit.proofs.SomeFaults.{field_or_none, image_or_none}
+use Rattle.lat_audit.proofs.HeldMaps.{holds_maps}
 use Rattle.lat_audit.proofs.SomeRules.{identity_or_none, prime_subfield_or_none, inverse_or_none, composition_or_none, compositions_kept, intersection_or_none}
 
 abbrev HasVerdict : List ℕ → Type 0
@@ -30,10 +31,8 @@ prime_number c polys j l = in_table (poly_at c.rows polys j l).characteristic wh
     prime = get_or_default first_edition.primes q 0 (field_at c.rows j).characteristic w ∙ e;
   })
 
--- content that holds embeddings holds maps, and where all rules are kept as well, the text is the
--- dump of a lattice
-module _ (held : (text : List ℕ) (c : Content) → HoldsEmbeddings text c → HoldsMaps (lattice_of c))
-    (kept : (text : List ℕ) (c : Content) → KeepsCompositions text c
+-- where all rules are kept the text is the dump of a lattice
+module _ (kept : (text : List ℕ) (c : Content) → KeepsCompositions text c
     → None (LacksIntersection (lattice_of c))
     → IsDumped (lattice_of c) × (text ≡ dump_text (lattice_of c))) where
   module _ (text : List ℕ) (c : Content) (dump : IsDump text c) where
@@ -46,7 +45,7 @@ module _ (held : (text : List ℕ) (c : Content) → HoldsEmbeddings text c → 
       embeddings = record { dump = dump; fields = none_reducible; maps = none_wrong }
 
       maps : HoldsMaps (lattice_of c)
-      maps = held text c embeddings
+      maps = holds_maps c sound.0 sound.1 none_reducible none_wrong
 
       by_intersections : KeepsCompositions text c → HasVerdict text
       by_intersections keeps = ⊎_elim
