@@ -16,4 +16,7 @@ pub mod SomeReading
 pub mod SomeFaults
 pub mod SomeRules
 pub mod HeldMaps
+pub mod KeptRows
+pub mod KeptImages
+pub mod KeptContents
 pub mod SomeVerdict

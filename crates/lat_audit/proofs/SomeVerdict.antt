@@ -8,6 +8,7 @@ use Rattle.lat_audit.specs.Readings.{ended_lines, Content, Header, Reading, IsDu
 use Rattle.lat_audit.specs.Verdicts.{None, triple_cmp, IsReducible, IsWrongImage, LacksIdentity, LacksPrimeSubfield, IsPrimeField, LacksInverse, LacksComposition, LacksIntersection, HoldsEmbeddings, KeepsIdentities, KeepsPrimeSubfields, KeepsInverses, KeepsCompositions, IsDumped, Judges}
 use Rattle.lat_audit.specs.Verdicts.Judges.{good, bad_text, bad_field, bad_map, identity, prime_subfield, inverse, transitivity, intersection}
 use Rattle.lat_audit.specs.Theorems.{TextHasVerdict}
+use Rattle.lat_audit.specs.PrivateContents.{IsContent, content_text}
 use Rattle.lat_audit.specs.PrivateRules.{HoldsMaps}
 use Rattle.lat_audit.specs.declared.verdicts.AuditVerdict.{AuditVerdict}
 use Rattle.lat_audit.specs.declared.verdicts.AuditVerdict.TheVariants.{Good, BadText, BadField, BadMap, BadRule, NoMemory}
@@ -15,6 +16,8 @@ use Rattle.lat_audit.proofs.FiniteSearches.{FirstOrNone}
 use Rattle.lat_audit.proofs.SomeReading.{ArePolys, AreWithin, poly_at, some_reading, dump_sound}
 use Rattle.lat_audit.proofs.SomeFaults.{field_or_none, image_or_none}
 use Rattle.lat_audit.proofs.HeldMaps.{holds_maps}
+use Rattle.lat_audit.proofs.KeptImages.{content_is_dump}
+use Rattle.lat_audit.proofs.KeptContents.{content_dumped}
 use Rattle.lat_audit.proofs.SomeRules.{identity_or_none, prime_subfield_or_none, inverse_or_none, composition_or_none, compositions_kept, intersection_or_none}
 
 abbrev HasVerdict : List ℕ → Type 0
@@ -31,10 +34,9 @@ prime_number c polys j l = in_table (poly_at c.rows polys j l).characteristic wh
     prime = get_or_default first_edition.primes q 0 (field_at c.rows j).characteristic w ∙ e;
   })
 
--- where all rules are kept the text is the dump of a lattice
-module _ (kept : (text : List ℕ) (c : Content) → KeepsCompositions text c
-    → None (LacksIntersection (lattice_of c))
-    → IsDumped (lattice_of c) × (text ≡ dump_text (lattice_of c))) where
+-- what is read is a content, and the text is that of the content
+module _ (read_content : (text : List ℕ) (c : Content) → IsDump text c
+    → IsContent c × (text ≡ content_text c)) where
   module _ (text : List ℕ) (c : Content) (dump : IsDump text c) where
     sound : ArePolys c.rows × AreWithin c.rows c.images
     sound = dump_sound text c dump
@@ -51,8 +53,14 @@ module _ (kept : (text : List ℕ) (c : Content) → KeepsCompositions text c
       by_intersections keeps = ⊎_elim
           (λ ((i, j, k), first). (BadRule 6 i j k, (λ e. cc), intersection c keeps first))
           (λ none.
-          let lattice = kept text c keeps none in
-          (Good (lattice_of c), (λ e. cc), good lattice.0 lattice.1))
+          let read = read_content text c dump in
+          (
+            Good (lattice_of c),
+            (λ e. cc),
+            good (content_dumped c read.0 sound.0 sound.1 none_reducible none_wrong keeps.before.before.before.kept
+            keeps.before.before.kept keeps.before.kept keeps.kept none)
+            (read.1 ∙ content_is_dump c read.0 sound.0 sound.1 none_reducible none_wrong),
+          ))
           (intersection_or_none (lattice_of c) maps (compositions_kept (lattice_of c) maps keeps.kept))
 
       by_compositions : KeepsInverses text c → HasVerdict text
