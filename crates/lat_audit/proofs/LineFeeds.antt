@@ -6,6 +6,7 @@ use Rattle.std.specs.Str.Parse.{AllDigits}
 use Rattle.std.specs.Char.{IsAsciiAlphabetic}
 use Rattle.std.proofs.lemmas.Fmt.{decimal_is_IsNumeral}
 use Rattle.std.proofs.lemmas.Str.Parse.{digit_from_value}
+use Rattle.std.proofs.lemmas.Bool.{eqb-false}
 use Rattle.std.proofs.lemmas.List.Elements.{All-head, All-tail, All-cons, All-nil, All-append, All-get_or, All-from_recursion}
 use Rattle.alg_model.specs.Lattices.{first_edition, made_name, prime_row, Row, no_row, field_at}
 use Rattle.lat_core.specs.Names.{IsNameByte, IsDeclaredName}
@@ -16,8 +17,8 @@ use Rattle.lat_audit.specs.Dumps.{header_line, fields_line, field_line, maps_lin
 use Rattle.lat_audit.specs.Readings.{ended_lines, Image, IsNewName, IsNextRow, IsNextImage}
 use Rattle.lat_audit.specs.PrivateReadings.{Lacks, ended, IsFieldPoly}
 use Rattle.lat_audit.proofs.ContentRows.{HasPoly}
-use Rattle.lat_audit.proofs.LineWords.{begins}
-use Rattle.lat_audit.proofs.ReadRows.{characteristic_small, prime_in_table, next_poly, poly_digits, value_digits}
+use Rattle.lat_audit.proofs.LineWords.{first_line}
+use Rattle.lat_audit.proofs.ReadRows.{characteristic_small, next_poly, poly_digits, value_digits}
 
 -- ---- texts joined of lines
 onto_joined : (b : ℕ) (lines : List (List ℕ)) → concat (onto_first b lines) ≡ b ∷ concat lines
@@ -43,7 +44,7 @@ pub line_begins : (line rest : List ℕ) → IsLine line
 line_begins line rest (l, is, none) =
     ap (λ t. ended_lines (t ++ rest)) is
     ∙ ap ended_lines (append_assoc l (10 ∷ []) rest)
-    ∙ begins l rest none
+    ∙ first_line (l ++ 10 ∷ rest) l rest (refl, none)
     ∙ ap (λ t. t ∷ ended_lines rest) (sym is)
 
 joined_lacks : (byte : ℕ) → byte ≢ 10 → (words : List (List ℕ)) → All (Lacks 10) words
@@ -67,7 +68,11 @@ has_none (b ∷ text) = cond (eqb b 10) false (has_none text)
 
 tested : (text : List ℕ) → has_none text ≡ true → Lacks 10 text
 tested [] e = All-nil (λ b. b ≢ 10)
-tested (b ∷ text) e = grind arith
+tested (b ∷ text) e = by_test (eqb b 10) refl (tested text) e where
+  by_test : (t : Bool) → eqb b 10 ≡ t → (has_none text ≡ true → Lacks 10 text)
+      → cond t false (has_none text) ≡ true → Lacks 10 (b ∷ text)
+  by_test true is rest e = cc
+  by_test false is rest e = All-cons (λ b. b ≢ 10) b text (eqb-false b 10 is) (rest e)
 
 digits_free : (ds : List ℕ) → AllDigits 10 ds → Lacks 10 ds
 digits_free [] h = All-nil (λ b. b ≢ 10)
@@ -119,8 +124,9 @@ new_free rows name few (inr e) = subst (Lacks 10) (sym e) (lettered_free 95 (len
 name_free : (rows : List Row) (r : Row) → length rows < 2 ^ 64 → IsNextRow rows r → Lacks 10 r.name
 name_free rows r small (inl (few, e)) =
     let p = slice_index first_edition.primes (length rows) in
-    let low : p < 32 = characteristic_small p (prime_in_table (length rows) few) in
-    subst (λ (s : Row). Lacks 10 s.name) (sym e) (lettered_free 70 p (λ t. omega (arith, t)) (omega (arith, low)))
+    let is : r.field.characteristic ≡ p = ap (λ (s : Row). s.field.characteristic) e in
+    let low : r.field.characteristic < 32 = characteristic_small r.field.characteristic (next_poly rows r (inl (few, e))).characteristic in
+    subst (λ (s : Row). Lacks 10 s.name) (sym e) (lettered_free 70 p (λ t. omega (arith, t)) (omega (arith, low, is)))
 name_free rows r small (inr (many, new)) = new_free rows r.name small new.0
 
 -- ---- the lines of a dump

@@ -110,7 +110,7 @@ module _ (c : Content) (is : IsContent c) where
       (fields, refl, is.enough, is.few, refl)
       (rows_read fields small behind_rows c [] c.rows refl (rows_follow c is) maps_read (n + 1))
 
-  pub text_in_order : content_text c ≡ header_line 1 ++ (fields_line fields ++ (field_lines 0 c.rows ++ behind_rows))
+  text_in_order : content_text c ≡ header_line 1 ++ (fields_line fields ++ (field_lines 0 c.rows ++ behind_rows))
   unfolding behind_rows
   text_in_order = simp append_assoc
 
