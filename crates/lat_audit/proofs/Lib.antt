@@ -13,3 +13,4 @@ pub mod RuleFaults
 pub mod ContentRows
 pub mod LineFeeds
 pub mod WrittenContents
+pub mod ReadContents
