@@ -10,6 +10,10 @@ pub mod RuleMaps
 pub mod RuleOrders
 pub mod RuleDegrees
 pub mod RuleFaults
+pub mod ContentRows
+pub mod LineFeeds
+pub mod WrittenContents
+pub mod ReadContents
 pub mod FiniteSearches
 pub mod LineDecisions
 pub mod SomeReading

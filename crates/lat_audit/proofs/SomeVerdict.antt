@@ -8,10 +8,10 @@ use Rattle.lat_audit.specs.Readings.{ended_lines, Content, Header, Reading, IsDu
 use Rattle.lat_audit.specs.Verdicts.{None, triple_cmp, IsReducible, IsWrongImage, LacksIdentity, LacksPrimeSubfield, IsPrimeField, LacksInverse, LacksComposition, LacksIntersection, HoldsEmbeddings, KeepsIdentities, KeepsPrimeSubfields, KeepsInverses, KeepsCompositions, IsDumped, Judges}
 use Rattle.lat_audit.specs.Verdicts.Judges.{good, bad_text, bad_field, bad_map, identity, prime_subfield, inverse, transitivity, intersection}
 use Rattle.lat_audit.specs.Theorems.{TextHasVerdict}
-use Rattle.lat_audit.specs.PrivateContents.{IsContent, content_text}
 use Rattle.lat_audit.specs.PrivateRules.{HoldsMaps}
 use Rattle.lat_audit.specs.declared.verdicts.AuditVerdict.{AuditVerdict}
 use Rattle.lat_audit.specs.declared.verdicts.AuditVerdict.TheVariants.{Good, BadText, BadField, BadMap, BadRule, NoMemory}
+use Rattle.lat_audit.proofs.ReadContents.{read_content}
 use Rattle.lat_audit.proofs.FiniteSearches.{FirstOrNone}
 use Rattle.lat_audit.proofs.SomeReading.{ArePolys, AreWithin, poly_at, some_reading, dump_sound}
 use Rattle.lat_audit.proofs.SomeFaults.{field_or_none, image_or_none}
@@ -34,79 +34,76 @@ prime_number c polys j l = in_table (poly_at c.rows polys j l).characteristic wh
     prime = get_or_default first_edition.primes q 0 (field_at c.rows j).characteristic w ∙ e;
   })
 
--- what is read is a content, and the text is that of the content
-module _ (read_content : (text : List ℕ) (c : Content) → IsDump text c
-    → IsContent c × (text ≡ content_text c)) where
-  module _ (text : List ℕ) (c : Content) (dump : IsDump text c) where
-    sound : ArePolys c.rows × AreWithin c.rows c.images
-    sound = dump_sound text c dump
+module _ (text : List ℕ) (c : Content) (dump : IsDump text c) where
+  sound : ArePolys c.rows × AreWithin c.rows c.images
+  sound = dump_sound text c dump
 
-    -- ---- the rules
-    module _ (none_reducible : None (IsReducible c.rows)) (none_wrong : None (IsWrongImage c)) where
-      embeddings : HoldsEmbeddings text c
-      embeddings = record { dump = dump; fields = none_reducible; maps = none_wrong }
+  -- ---- the rules
+  module _ (none_reducible : None (IsReducible c.rows)) (none_wrong : None (IsWrongImage c)) where
+    embeddings : HoldsEmbeddings text c
+    embeddings = record { dump = dump; fields = none_reducible; maps = none_wrong }
 
-      maps : HoldsMaps (lattice_of c)
-      maps = holds_maps c sound.0 sound.1 none_reducible none_wrong
+    maps : HoldsMaps (lattice_of c)
+    maps = holds_maps c sound.0 sound.1 none_reducible none_wrong
 
-      by_intersections : KeepsCompositions text c → HasVerdict text
-      by_intersections keeps = ⊎_elim
-          (λ ((i, j, k), first). (BadRule 6 i j k, (λ e. cc), intersection c keeps first))
-          (λ none.
-          let read = read_content text c dump in
-          (
-            Good (lattice_of c),
-            (λ e. cc),
-            good (content_dumped c read.0 sound.0 sound.1 none_reducible none_wrong keeps.before.before.before.kept
-            keeps.before.before.kept keeps.before.kept keeps.kept none)
-            (read.1 ∙ content_is_dump c read.0 sound.0 sound.1 none_reducible none_wrong),
-          ))
-          (intersection_or_none (lattice_of c) maps (compositions_kept (lattice_of c) maps keeps.kept))
+    by_intersections : KeepsCompositions text c → HasVerdict text
+    by_intersections keeps = ⊎_elim
+        (λ ((i, j, k), first). (BadRule 6 i j k, (λ e. cc), intersection c keeps first))
+        (λ none.
+        let read = read_content text c dump in
+        (
+          Good (lattice_of c),
+          (λ e. cc),
+          good (content_dumped c read.0 sound.0 sound.1 none_reducible none_wrong keeps.before.before.before.kept
+          keeps.before.before.kept keeps.before.kept keeps.kept none)
+          (read.1 ∙ content_is_dump c read.0 sound.0 sound.1 none_reducible none_wrong),
+        ))
+        (intersection_or_none (lattice_of c) maps (compositions_kept (lattice_of c) maps keeps.kept))
 
-      by_compositions : KeepsInverses text c → HasVerdict text
-      by_compositions keeps = ⊎_elim
-          (λ ((i, j, k), first). (BadRule 5 i j k, (λ e. cc), transitivity c keeps first))
-          (λ none. by_intersections (record { before = keeps; kept = none }))
-          (composition_or_none (lattice_of c) maps)
+    by_compositions : KeepsInverses text c → HasVerdict text
+    by_compositions keeps = ⊎_elim
+        (λ ((i, j, k), first). (BadRule 5 i j k, (λ e. cc), transitivity c keeps first))
+        (λ none. by_intersections (record { before = keeps; kept = none }))
+        (composition_or_none (lattice_of c) maps)
 
-      by_inverses : KeepsPrimeSubfields text c → HasVerdict text
-      by_inverses keeps = ⊎_elim
-          (λ ((i, j), first). (BadRule 4 i j j, (λ e. cc), inverse c keeps first))
-          (λ none. by_compositions (record { before = keeps; kept = none }))
-          (inverse_or_none (lattice_of c) maps)
+    by_inverses : KeepsPrimeSubfields text c → HasVerdict text
+    by_inverses keeps = ⊎_elim
+        (λ ((i, j), first). (BadRule 4 i j j, (λ e. cc), inverse c keeps first))
+        (λ none. by_compositions (record { before = keeps; kept = none }))
+        (inverse_or_none (lattice_of c) maps)
 
-      by_prime_subfields : KeepsIdentities text c → HasVerdict text
-      by_prime_subfields keeps = ⊎_elim
-          (λ (j, first).
-          let (q, prime) = prime_number c sound.0 j first.0.within in
-          (BadRule 3 q j j, (λ e. cc), prime_subfield c keeps first prime))
-          (λ none. by_inverses (record { before = keeps; kept = none }))
-          (prime_subfield_or_none (lattice_of c))
+    by_prime_subfields : KeepsIdentities text c → HasVerdict text
+    by_prime_subfields keeps = ⊎_elim
+        (λ (j, first).
+        let (q, prime) = prime_number c sound.0 j first.0.within in
+        (BadRule 3 q j j, (λ e. cc), prime_subfield c keeps first prime))
+        (λ none. by_inverses (record { before = keeps; kept = none }))
+        (prime_subfield_or_none (lattice_of c))
 
-      by_identities : HasVerdict text
-      by_identities = ⊎_elim
-          (λ (i, first). (BadRule 2 i i i, (λ e. cc), identity c embeddings first))
-          (λ none. by_prime_subfields (record { embeddings = embeddings; kept = none }))
-          (identity_or_none (lattice_of c))
+    by_identities : HasVerdict text
+    by_identities = ⊎_elim
+        (λ (i, first). (BadRule 2 i i i, (λ e. cc), identity c embeddings first))
+        (λ none. by_prime_subfields (record { embeddings = embeddings; kept = none }))
+        (identity_or_none (lattice_of c))
 
-    -- ---- the fields and the images
-    by_images : None (IsReducible c.rows) → HasVerdict text
-    by_images fields = ⊎_elim
-        (λ ((i, j), first). (BadMap i j, (λ e. cc), bad_map c dump fields first))
-        (λ none. by_identities fields none)
-        (image_or_none c sound.1)
+  -- ---- the fields and the images
+  by_images : None (IsReducible c.rows) → HasVerdict text
+  by_images fields = ⊎_elim
+      (λ ((i, j), first). (BadMap i j, (λ e. cc), bad_map c dump fields first))
+      (λ none. by_identities fields none)
+      (image_or_none c sound.1)
 
-    by_fields : HasVerdict text
-    by_fields = ⊎_elim
-        (λ (i, first). (BadField i, (λ e. cc), bad_field c dump first))
-        (λ none. by_images none)
-        (field_or_none c.rows sound.0)
+  by_fields : HasVerdict text
+  by_fields = ⊎_elim
+      (λ (i, first). (BadField i, (λ e. cc), bad_field c dump first))
+      (λ none. by_images none)
+      (field_or_none c.rows sound.0)
 
-  by_reading : (text : List ℕ) (r : Result Content ℕ) → Reading Header 1 (ended_lines text) r
-      → HasVerdict text
-  by_reading text (Ok c) h = by_fields text c h
-  by_reading text (Err n) h = (BadText n, (λ e. cc), bad_text h)
+by_reading : (text : List ℕ) (r : Result Content ℕ) → Reading Header 1 (ended_lines text) r
+    → HasVerdict text
+by_reading text (Ok c) h = by_fields text c h
+by_reading text (Err n) h = (BadText n, (λ e. cc), bad_text h)
 
-  -- **each text has a verdict**
-  pub verdict_exists : TextHasVerdict
-  verdict_exists text = let reading = some_reading text in by_reading text reading.0 reading.1
+-- **each text has a verdict**
+pub verdict_exists : TextHasVerdict
+verdict_exists text = let reading = some_reading text in by_reading text reading.0 reading.1
