@@ -1,7 +1,7 @@
 -- The lattice of a content that keeps all rules is compatible.
-use Rattle.std.proofs.Common.{◌≡◌, ℕ, ◌<◌, List, length, sym, refl, ap, ◌∙◌}
-use Rattle.alg_model.specs.Lattices.{first_edition, Lattice, Stored, Compatible, IsCompatible}
-use Rattle.lat_audit.specs.Readings.{Content, IsDump, lattice_of}
+use Rattle.std.proofs.Common.{refl}
+use Rattle.alg_model.specs.Lattices.{Compatible}
+use Rattle.lat_audit.specs.Readings.{Content, lattice_of}
 use Rattle.lat_audit.specs.Verdicts.{None as Never, IsReducible, IsWrongImage, LacksIdentity, LacksPrimeSubfield, LacksInverse, LacksComposition, LacksIntersection, IsDumped}
 use Rattle.lat_audit.specs.PrivateContents.{IsContent}
 use Rattle.lat_audit.specs.PrivateRules.{HoldsMaps, AreComposed}

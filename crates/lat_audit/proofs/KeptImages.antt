@@ -1,10 +1,9 @@
 -- The text of a content whose images are those of embeddings is the dump of its lattice.
-use Rattle.std.proofs.Common.{◌≡◌, Bool, true, false, ℕ, zero, suc, ◌+◌, ◌<◌, ◌≤◌, List, [], ◌∷◌, ◌++◌, length, take, drop, map, get_or, sym, refl, ap, ap₂, ◌∙◌, subst, arith, get_or-take, drop-cons}
-use Rattle.std.specs.Prelude.{◌&&◌, All, AllPairs, Contains, flat_map}
+use Rattle.std.proofs.Common.{◌≡◌, Bool, true, false, ℕ, suc, ◌<◌, List, [], ◌∷◌, ◌++◌, length, take, drop, map, get_or, sym, refl, ap, ap₂, ◌∙◌, subst, arith, get_or-take, drop-cons}
+use Rattle.std.specs.Prelude.{◌&&◌, All}
 use Rattle.std.specs.Ordering.{is_lt}
 use Rattle.std.specs.FinMap.{entries, len, len-entries, from_entries, from_sorted, get-from_entries, get-from_sorted, entries-from_sorted, same_map, is_sorted}
 use Rattle.std.specs.FinMap.Entries.{below_all}
-use Rattle.std.specs.declared.cmp.Ordering.TheVariants.{Less}
 use Rattle.std.proofs.Math.Dec.{T}
 use Rattle.std.proofs.lemmas.List.{length-take-le, take-append-drop, length-map}
 use Rattle.std.proofs.lemmas.List.Concat.{flat_map-cons}
@@ -68,7 +67,8 @@ module _ (c : Content) (is : IsContent c) where
       → stored_lines c.rows (map (map_of c.rows) images) ≡ image_lines images
   same_lines [] all = refl
   same_lines (x ∷ images) all =
-      flat_map-cons (λ (e : Entry). map_line e.0 (generator_image c.rows e)) (map_of c.rows x) (map (map_of c.rows) images)
+      flat_map-cons (λ (e : Entry). map_line e.0 (generator_image c.rows e)) (map_of c.rows x)
+      (map (map_of c.rows) images)
       ∙ ap₂ (λ v rest. map_line x.0 v ++ rest)
       (All-head (λ (e : Image). generator_image c.rows (map_of c.rows e) ≡ e.1) x images all)
       (same_lines images (All-tail (λ (e : Image). generator_image c.rows (map_of c.rows e) ≡ e.1) x images all))
@@ -78,7 +78,8 @@ module _ (c : Content) (is : IsContent c) where
       → Never (IsWrongImage c) → content_text c ≡ dump_text (lattice_of c)
   content_is_dump polys within fields images =
       let count : length c.images ≡ len (lattice_of c).maps
-      = sym (length-map c.images (map_of c.rows)) ∙ ap length (sym entries_are) ∙ sym (len-entries (lattice_of c).maps) in
+      = sym (length-map c.images (map_of c.rows)) ∙ ap length (sym entries_are)
+      ∙ sym (len-entries (lattice_of c).maps) in
       let lines : image_lines c.images ≡ map_lines (lattice_of c)
       = sym (same_lines c.images (λ k d l.
       let e = get_or c.images k d in

@@ -1,12 +1,11 @@
 -- The rows of a content are rows of the first edition.
-use Rattle.std.proofs.Common.{◌≡◌, ℕ, suc, ◌+◌, ◌<◌, ◌≤◌, ◌^◌, List, ◌∷◌, ◌++◌, length, take, drop, map, get_or, sym, ap, ◌∙◌, subst, inl, inr, ⊎_elim, arith, decimal, get_or-take, drop-cons}
-use Rattle.std.specs.Prelude.{◌≢◌, ◌⊎◌, All, AllPairs, slice_index, slice_index_or}
+use Rattle.std.proofs.Common.{◌≡◌, ℕ, suc, ◌<◌, ◌≤◌, List, ◌∷◌, ◌++◌, length, take, drop, map, get_or, sym, ap, ◌∙◌, subst, inl, inr, ⊎_elim, arith, decimal, get_or-take, drop-cons}
+use Rattle.std.specs.Prelude.{◌≢◌, ◌⊎◌, All, AllPairs, Contains, slice_index, slice_index_or}
 use Rattle.std.proofs.lemmas.Fmt.{decimal_injective}
 use Rattle.std.proofs.lemmas.List.{length-take-le, take-append-drop, get_or-map, get_or_default, ext_get_or}
 use Rattle.std.proofs.lemmas.List.Elements.{All-get_or, Contains-get_or}
-use Rattle.alg_model.specs.Values.{degree}
 use Rattle.alg_model.specs.Maps.{IsFiniteField, degree_of}
-use Rattle.alg_model.specs.Lattices.{first_edition, Row, no_row, prime_row, made_name, field_at, IsRow, IsRows}
+use Rattle.alg_model.specs.Lattices.{first_edition, Row, no_row, prime_row, made_name, field_at, IsRows}
 use Rattle.alg_compatible.proofs.Editions.{first_is_edition}
 use Rattle.lat_core.specs.Names.{IsDeclaredName, IsFieldName}
 use Rattle.lat_core.proofs.Decisions.{prime_of}
@@ -19,14 +18,18 @@ use Rattle.lat_audit.proofs.ReadRows.{prime_declared, characteristic_small, next
 abbrev first_byte : List ℕ → ℕ
 first_byte name = slice_index name 0
 
+in_table : (k : ℕ) → k < length first_edition.primes
+    → Contains first_edition.primes (slice_index first_edition.primes k)
+in_table k few = Contains-get_or first_edition.primes k 0 few
+
 small_prime : (k : ℕ) → k < length first_edition.primes → slice_index first_edition.primes k < 32
-small_prime k few = characteristic_small (slice_index first_edition.primes k) (Contains-get_or first_edition.primes k 0 few)
+small_prime k few = characteristic_small (slice_index first_edition.primes k) (in_table k few)
 
 prime_is_declared : (k : ℕ) → k < length first_edition.primes
     → IsDeclaredName (prime_row (slice_index first_edition.primes k)).name
 prime_is_declared k few =
     let above : 1 < slice_index first_edition.primes k
-    = (prime_of first_is_edition (slice_index first_edition.primes k) (Contains-get_or first_edition.primes k 0 few)).above_one in
+    = (prime_of first_is_edition (slice_index first_edition.primes k) (in_table k few)).above_one in
     prime_declared (slice_index first_edition.primes k) above (omega (arith, small_prime k few))
 
 -- ---- rows by their numbers
@@ -160,7 +163,10 @@ module _ (c : Content) (is : IsContent c) where
           field = finite k l;
           characteristic = poly.characteristic;
           degree = poly.degree.1;
-          name = ⊎_elim (λ declared. inl (declared_name_byte (row_at k).name declared)) (λ made. inr made) (name_kind k l);
+          name = ⊎_elim
+              (λ declared. inl (declared_name_byte (row_at k).name declared))
+              (λ made. inr made)
+              (name_kind k l);
         };
     names_differ = names_differ;
     room = is.few;

@@ -1,15 +1,15 @@
 -- The first fields at which a rule is broken, or that it is kept.
-use Rattle.std.proofs.Common.{◌≡◌, ℕ, zero, suc, ◌+◌, ◌-◌, ◌%◌, ◌<◌, ◌≤◌, Option, Some, None, List, length, sym, refl, ap, ◌∙◌, subst, inl, inr, ⊎_elim, arith, nat_cmp}
-use Rattle.std.specs.Prelude.{◌⊎◌, slice_index}
+use Rattle.std.proofs.Common.{◌≡◌, ℕ, zero, suc, ◌+◌, ◌%◌, ◌<◌, Option, Some, None, List, length, refl, subst, inl, inr, ⊎_elim, arith, nat_cmp}
+use Rattle.std.specs.Prelude.{slice_index}
 use Rattle.std.specs.Int.{IsGcd}
 use Rattle.std.specs.FinMap.{get}
 use Rattle.std.proofs.Math.Nat.{mod-lt}
 use Rattle.std.proofs.lemmas.Nat.Gcd.{IsGcd-from_zero, IsGcd-from_mod, same_from_IsGcd}
-use Rattle.std.proofs.lemmas.Bool.{cases_lt, cases_eq}
+use Rattle.std.proofs.lemmas.Bool.{cases_eq}
 use Rattle.alg_model.specs.Maps.{degree_of, comp, identity_map}
 use Rattle.alg_model.specs.Lattices.{Lattice, Stored, field_at, pair_cmp}
 use Rattle.lat_language.specs.PrivateDecisions.{Decided, same_words}
-use Rattle.lat_audit.specs.Verdicts.{IsFirst, None as Never, Triple, triple_cmp, LacksIdentity, LacksPrimeSubfield, IsPrimeField, HasInverse, LacksInverse, LacksComposition, LacksIntersection}
+use Rattle.lat_audit.specs.Verdicts.{None as Never, triple_cmp, LacksIdentity, LacksPrimeSubfield, HasInverse, LacksInverse, LacksComposition, LacksIntersection}
 use Rattle.lat_audit.specs.PrivateRules.{HoldsMaps, AreComposed, IsCommonSubfield, KeepsComposition, KeepsIntersection}
 use Rattle.lat_audit.proofs.RuleMaps.{stored_once}
 use Rattle.lat_audit.proofs.RuleFaults.{are_composed}
@@ -73,7 +73,8 @@ module _ (L : Lattice) where
 
   some_prime : (j : ℕ) → Decided ((q : ℕ) × (q < length L.edition.primes) × HasPrime j q)
   some_prime j = some_below (HasPrime j) (length L.edition.primes)
-      (λ q w. both_told (cases_eq (slice_index L.edition.primes q) (field_at L.rows j).characteristic) (some_stored q j))
+      (λ q w. both_told (cases_eq (slice_index L.edition.primes q) (field_at L.rows j).characteristic)
+      (some_stored q j))
 
   lacks_prime : (j : ℕ) → j < length L.rows
       → ¬ ((q : ℕ) × (q < length L.edition.primes) × HasPrime j q) → LacksPrimeSubfield L j

@@ -1,18 +1,16 @@
 -- Each text has a verdict.
-use Rattle.std.proofs.Common.{◌≡◌, ℕ, ◌<◌, ◌≤◌, Result, Ok, Err, List, length, sym, refl, ap, ◌∙◌, subst, inl, inr, ⊎_elim, arith, nat_cmp}
-use Rattle.std.specs.Prelude.{◌≢◌, ◌⊎◌, Contains}
+use Rattle.std.proofs.Common.{ℕ, ◌<◌, Result, Ok, Err, List, length, ◌∙◌, ⊎_elim}
+use Rattle.std.specs.Prelude.{◌≢◌, Contains}
 use Rattle.std.proofs.lemmas.List.{get_or_default}
-use Rattle.alg_model.specs.Lattices.{first_edition, field_at, pair_cmp}
-use Rattle.lat_audit.specs.Dumps.{dump_text}
+use Rattle.alg_model.specs.Lattices.{first_edition, field_at}
 use Rattle.lat_audit.specs.Readings.{ended_lines, Content, Header, Reading, IsDump, lattice_of}
-use Rattle.lat_audit.specs.Verdicts.{None, triple_cmp, IsReducible, IsWrongImage, LacksIdentity, LacksPrimeSubfield, IsPrimeField, LacksInverse, LacksComposition, LacksIntersection, HoldsEmbeddings, KeepsIdentities, KeepsPrimeSubfields, KeepsInverses, KeepsCompositions, IsDumped, Judges}
+use Rattle.lat_audit.specs.Verdicts.{None, IsReducible, IsWrongImage, IsPrimeField, HoldsEmbeddings, KeepsIdentities, KeepsPrimeSubfields, KeepsInverses, KeepsCompositions, Judges}
 use Rattle.lat_audit.specs.Verdicts.Judges.{good, bad_text, bad_field, bad_map, identity, prime_subfield, inverse, transitivity, intersection}
 use Rattle.lat_audit.specs.Theorems.{TextHasVerdict}
 use Rattle.lat_audit.specs.PrivateRules.{HoldsMaps}
 use Rattle.lat_audit.specs.declared.verdicts.AuditVerdict.{AuditVerdict}
 use Rattle.lat_audit.specs.declared.verdicts.AuditVerdict.TheVariants.{Good, BadText, BadField, BadMap, BadRule, NoMemory}
 use Rattle.lat_audit.proofs.ReadContents.{read_content}
-use Rattle.lat_audit.proofs.FiniteSearches.{FirstOrNone}
 use Rattle.lat_audit.proofs.SomeReading.{ArePolys, AreWithin, poly_at, some_reading, dump_sound}
 use Rattle.lat_audit.proofs.SomeFaults.{field_or_none, image_or_none}
 use Rattle.lat_audit.proofs.HeldMaps.{holds_maps}
@@ -29,10 +27,13 @@ prime_number : (c : Content) → ArePolys c.rows → (j : ℕ) → j < length c.
 prime_number c polys j l = in_table (poly_at c.rows polys j l).characteristic where
   in_table : Contains first_edition.primes (field_at c.rows j).characteristic
       → (q : ℕ) × IsPrimeField (lattice_of c) q j
-  in_table (q, w, e) = (q, record {
-    within = w;
-    prime = get_or_default first_edition.primes q 0 (field_at c.rows j).characteristic w ∙ e;
-  })
+  in_table (q, w, e) = (
+    q,
+    record {
+      within = w;
+      prime = get_or_default first_edition.primes q 0 (field_at c.rows j).characteristic w ∙ e;
+    },
+  )
 
 module _ (text : List ℕ) (c : Content) (dump : IsDump text c) where
   sound : ArePolys c.rows × AreWithin c.rows c.images
@@ -50,13 +51,12 @@ module _ (text : List ℕ) (c : Content) (dump : IsDump text c) where
     by_intersections keeps = ⊎_elim
         (λ ((i, j, k), first). (BadRule 6 i j k, (λ e. cc), intersection c keeps first))
         (λ none.
-        let read = read_content text c dump in
-        (
+        let read = read_content text c dump in (
           Good (lattice_of c),
           (λ e. cc),
           good (content_dumped c read.0 sound.0 sound.1 none_reducible none_wrong keeps.before.before.before.kept
-          keeps.before.before.kept keeps.before.kept keeps.kept none)
-          (read.1 ∙ content_is_dump c read.0 sound.0 sound.1 none_reducible none_wrong),
+              keeps.before.before.kept keeps.before.kept keeps.kept none)
+              (read.1 ∙ content_is_dump c read.0 sound.0 sound.1 none_reducible none_wrong),
         ))
         (intersection_or_none (lattice_of c) maps (compositions_kept (lattice_of c) maps keeps.kept))
 
