@@ -10,3 +10,17 @@ pub mod RuleMaps
 pub mod RuleOrders
 pub mod RuleDegrees
 pub mod RuleFaults
+pub mod ContentRows
+pub mod LineFeeds
+pub mod WrittenContents
+pub mod ReadContents
+pub mod FiniteSearches
+pub mod LineDecisions
+pub mod SomeReading
+pub mod SomeFaults
+pub mod SomeRules
+pub mod HeldMaps
+pub mod KeptRows
+pub mod KeptImages
+pub mod KeptContents
+pub mod SomeVerdict
