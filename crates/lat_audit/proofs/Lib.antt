@@ -11,3 +11,5 @@ pub mod RuleOrders
 pub mod RuleDegrees
 pub mod RuleFaults
 pub mod OneReading
+pub mod CompatibleRules
+pub mod OneVerdict
