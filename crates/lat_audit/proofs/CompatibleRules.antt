@@ -13,9 +13,10 @@ module _ (L : Lattice) (C : IsCompatible L) where
       → IsPrimeField L q j
   prime_by_map q j m below stored =
       let at = prime_row_at L.edition.primes L.rows C.rows.prime_fields q below in
+      let same = (C.compatible.embedding stored).same_characteristic in
       record {
         within = below;
-        prime = sym (ap (λ (r : Row). r.field.characteristic) at) ∙ (C.compatible.embedding stored).same_characteristic;
+        prime = sym (ap (λ (r : Row). r.field.characteristic) at) ∙ same;
       }
 
   pub prime_subfields_stored : None (LacksPrimeSubfield L)

@@ -31,12 +31,17 @@ same_row r s a b c = λ i. record {
   field = record { characteristic = b i; polynomial = c i };
 }
 
+-- the line of a row with no line feed
+abbrev row_text : ℕ → Row → List ℕ
+row_text n r = join_with_byte 32 (codes "field" ∷ decimal n ∷ r.name
+    ∷ decimal r.field.characteristic ∷ digits_text r.field.polynomial ∷ [])
+
 one_row : (rows : List Row) (r s : Row) → length rows < 2 ^ 64 → IsNextRow rows r → IsNextRow rows s
     → field_line (length rows) r ≡ field_line (length rows) s → r ≡ s
 unfolding line_of
 one_row rows r s few next other e =
     let number = decimal (length rows) in
-    let line = join_with_byte 32 (codes "field" ∷ number ∷ r.name ∷ decimal r.field.characteristic ∷ digits_text r.field.polynomial ∷ []) in
+    let line = row_text (length rows) r in
     let p = next_poly rows r next in
     let q = next_poly rows s other in
     let low : r.field.characteristic < 32 = characteristic_small r.field.characteristic p.characteristic in
@@ -47,7 +52,8 @@ one_row rows r s few next other e =
     same_row r s same.1
     (decimal_injective r.field.characteristic s.field.characteristic (omega (arith, low)) (omega (arith, small)) same.2)
     (digits_text_injective r.field.polynomial s.field.polynomial
-    (poly_digits r.field.characteristic r.field.polynomial p) (poly_digits s.field.characteristic s.field.polynomial q) same.3)
+    (poly_digits r.field.characteristic r.field.polynomial p)
+    (poly_digits s.field.characteristic s.field.polynomial q) same.3)
 
 known_poly : (rows : List Row) (i : ℕ) → i < length rows → All HasPoly rows
     → IsFieldPoly (field_at rows i).characteristic (field_at rows i).polynomial
@@ -117,7 +123,8 @@ one_step : (place : Place) (line : List ℕ) (next other : Place) → Fits place
     → LeadsTo place line other → next ≡ other
 one_step Header line next other fits (is, at) (also, there) = at ∙ sym there
 one_step FieldCount line next other fits (m, is, low, high, at) (n, also, above, below, there) =
-    let same : m ≡ n = counted_once (codes "fields") m n (omega (arith, high)) (omega (arith, below)) (sym is ∙ also) in
+    let word = codes "fields" in
+    let same : m ≡ n = counted_once word m n (omega (arith, high)) (omega (arith, below)) (sym is ∙ also) in
     at ∙ ap (λ k. field_place k []) same ∙ sym there
 one_step (Field count rows) line next other (less, few, known) (r, is, new, at) (s, also, fresh, there) =
     let same : r ≡ s = one_row rows r s (omega (arith, less, few)) new fresh (sym is ∙ also) in

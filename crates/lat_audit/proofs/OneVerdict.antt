@@ -34,7 +34,8 @@ triple_antisymmetric s t e =
     let rest : ◌≡◌ {A = ℕ × ℕ} (s.1, s.2) (t.1, t.2) = pair_antisymmetric (s.1, s.2) (t.1, t.2) tie.1 in
     λ i. (first i, (rest i).0, (rest i).1)
 
-module _ {A : Type 0} {cmp : A → A → Ordering} (total : IsTotalOrder cmp) (antisymmetric : IsAntisymmetric cmp) where
+module _ {A : Type 0} {cmp : A → A → Ordering} (total : IsTotalOrder cmp)
+    (antisymmetric : IsAntisymmetric cmp) where
   one_first : (P : A → Type 0) (a b : A) → IsFirst cmp P a → IsFirst cmp P b → a ≡ b
   one_first P a b first other = by_order (cmp a b) refl
     where
@@ -53,7 +54,8 @@ Stage {A} cmp P Tells Later v = ((a : A) × IsFirst cmp P a × Tells a v) ⊎ (N
 abbrev HasOne : (AuditVerdict → Type 0) → Type 0
 HasOne Is = (v w : AuditVerdict) → Is v → Is w → v ≡ w
 
-module _ {A : Type 0} {cmp : A → A → Ordering} (total : IsTotalOrder cmp) (antisymmetric : IsAntisymmetric cmp) where
+module _ {A : Type 0} {cmp : A → A → Ordering} (total : IsTotalOrder cmp)
+    (antisymmetric : IsAntisymmetric cmp) where
   one_stage : (P : A → Type 0) (Tells : A → AuditVerdict → Type 0) (Later : AuditVerdict → Type 0)
       → ((a : A) → HasOne (Tells a)) → HasOne Later → HasOne (Stage cmp P Tells Later)
   one_stage P Tells Later tells later v w (inl (a, first, told)) (inl (b, other, also)) =
@@ -137,15 +139,18 @@ abbrev Tells : List ℕ → AuditVerdict → Type 0
 Tells text v = ((n : ℕ) × IsBadLine text n × (v ≡ BadText n))
     ⊎ ((c : Content) × IsDump text c × ByFields c v)
 
+-- no text has both
+not_both : (text : List ℕ) (n : ℕ) (c : Content) → IsBadLine text n → IsDump text c → ⊥
+not_both text n c bad dump =
+    let read : ◌≡◌ {A = Result Content ℕ} (Err n) (Ok c) = one_reading text (Err n) (Ok c) bad dump in cc
+
 one_told : (text : List ℕ) → HasOne (Tells text)
 one_told text v w (inl (m, bad, is)) (inl (n, worse, also)) =
     let read : ◌≡◌ {A = Result Content ℕ} (Err m) (Err n) = one_reading text (Err m) (Err n) bad worse in
     let same : m ≡ n = cc in
     is ∙ ap (λ k. BadText k) same ∙ sym also
-one_told text v w (inl (m, bad, is)) (inr (c, dump, told)) =
-    absurd (let read : ◌≡◌ {A = Result Content ℕ} (Err m) (Ok c) = one_reading text (Err m) (Ok c) bad dump in cc)
-one_told text v w (inr (c, dump, told)) (inl (m, bad, is)) =
-    absurd (let read : ◌≡◌ {A = Result Content ℕ} (Err m) (Ok c) = one_reading text (Err m) (Ok c) bad dump in cc)
+one_told text v w (inl (m, bad, is)) (inr (c, dump, told)) = absurd (not_both text m c bad dump)
+one_told text v w (inr (c, dump, told)) (inl (m, bad, is)) = absurd (not_both text m c bad dump)
 one_told text v w (inr (c, dump, told)) (inr (d, other, also)) =
     let read : ◌≡◌ {A = Result Content ℕ} (Ok c) (Ok d) = one_reading text (Ok c) (Ok d) dump other in
     let same : c ≡ d = cc in
@@ -159,13 +164,22 @@ by_rules text c v holds told = inr (c, holds.dump, inr (holds.fields, inr (holds
 
 -- a compatible lattice is good
 by_compatible : (M : Lattice) → IsCompatible M → ByRules M (Good M)
-by_compatible M C = inr (identities_stored M C, inr (prime_subfields_stored M C,
-    inr (inverses_stored M C, inr (compositions_stored M C, inr (intersections_stored M C, refl)))))
+by_compatible M C = inr (
+  identities_stored M C,
+  inr (
+    prime_subfields_stored M C,
+    inr (inverses_stored M C, inr (compositions_stored M C, inr (intersections_stored M C, refl))),
+  ),
+)
 
 -- what the dump of a lattice says
 abbrev pub DumpHasContent : Type 0
 DumpHasContent = (L : Lattice) → IsDumped L → (c : Content) × IsDump (dump_text L) c
     × (lattice_of c ≡ L) × None (IsReducible c.rows) × None (IsWrongImage c)
+
+-- a text that is judged good is the dump of the lattice
+dump_judged : (text : List ℕ) (M : Lattice) → Judges text (Good M) → text ≡ dump_text M
+dump_judged text M (good dumped is) = is
 
 module _ (dumped_content : DumpHasContent) where
   by_dump : (text : List ℕ) (M : Lattice) → IsDumped M → text ≡ dump_text M → Tells text (Good M)
@@ -189,11 +203,10 @@ module _ (dumped_content : DumpHasContent) where
       by_rules text c (BadRule 4 i j j) before.embeddings
       (inr (before.kept, inr (keeps.kept, inl ((i, j), first, refl))))
   told text v some (transitivity c {i} {j} {k} keeps first) =
-      let inverses = keeps in
-      let primes = inverses.before in
+      let primes = keeps.before in
       let identities = primes.before in
       by_rules text c (BadRule 5 i j k) identities.embeddings
-      (inr (identities.kept, inr (primes.kept, inr (inverses.kept, inl ((i, j, k), first, refl)))))
+      (inr (identities.kept, inr (primes.kept, inr (keeps.kept, inl ((i, j, k), first, refl)))))
   told text v some (intersection c {i} {j} {k} keeps first) =
       let inverses = keeps.before in
       let primes = inverses.before in
@@ -215,11 +228,9 @@ module _ (dumped_content : DumpHasContent) where
   -- **a lattice has one spelling**
   pub lattice_has_one_spelling : LatticeHasOneSpelling
   lattice_has_one_spelling M N text other first second = (
-    λ e. let same : Good M ≡ Good N =
-    text_has_one_verdict other (Good M) (Good N) (λ f. cc) (λ f. cc) (subst (λ t. Judges t (Good M)) e first) second in
-    cc,
-    λ e. spelled text (Good M) first M refl ∙ ap dump_text e ∙ sym (spelled other (Good N) second N refl),
+    λ e. let judged = subst (λ t. Judges t (Good M)) e first in
+        let same : Good M ≡ Good N =
+        text_has_one_verdict other (Good M) (Good N) (λ f. cc) (λ f. cc) judged second in
+        cc,
+    λ e. dump_judged text M first ∙ ap dump_text e ∙ sym (dump_judged other N second),
   )
-    where
-      spelled : (text : List ℕ) (v : AuditVerdict) → Judges text v → (K : Lattice) → v ≡ Good K → text ≡ dump_text K
-      spelled text v judged K e = ?
