@@ -1,5 +1,6 @@
 pub mod SortedEntries
 pub mod StoredMaps
+pub mod EntryPlaces
 pub mod DumpedLines
 pub mod LineWords
 pub mod ReadRows
