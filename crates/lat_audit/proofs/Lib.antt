@@ -1,6 +1,8 @@
 pub mod SortedEntries
 pub mod StoredMaps
 pub mod EntryPlaces
+pub mod SplitLists
+pub mod DumpedRows
 pub mod DumpedLines
 pub mod LineWords
 pub mod ReadRows
