@@ -20,7 +20,7 @@ new_name rows name (inr made) (inr own) other = inr own
 new_name rows name (inr (n, l, e)) (inl first) other = absurd (first (ap (λ t. slice_index t 0) e))
 
 -- ---- rows
-rows_of_first : (L : Lattice) → IsDumped L → IsRows first_edition L.rows
+pub rows_of_first : (L : Lattice) → IsDumped L → IsRows first_edition L.rows
 rows_of_first L D = subst (λ e. IsRows e L.rows) D.edition D.compatible.rows
 
 module _ (L : Lattice) (D : IsDumped L) (before behind : List Row) (row : Row)

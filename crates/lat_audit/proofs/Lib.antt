@@ -3,6 +3,8 @@ pub mod StoredMaps
 pub mod EntryPlaces
 pub mod SplitLists
 pub mod DumpedRows
+pub mod DumpedImages
+pub mod DumpedContents
 pub mod DumpedLines
 pub mod LineWords
 pub mod ReadRows
