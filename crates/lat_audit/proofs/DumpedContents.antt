@@ -11,7 +11,7 @@ use Rattle.lat_audit.specs.Dumps.{edition_number, header_line, fields_line, fiel
 use Rattle.lat_audit.specs.Readings.{Image, Content, IsDump, lattice_of}
 use Rattle.lat_audit.specs.Verdicts.{None, IsReducible, IsGeneratorImage, IsWrongImage, IsDumped}
 use Rattle.lat_audit.specs.PrivateContents.{IsContent, image_lines, content_text}
-use Rattle.lat_audit.proofs.DumpedRows.{rows_of_first, dumped_row}
+use Rattle.lat_audit.proofs.DumpedRows.{rows_of_first, enough_rows, dumped_row}
 use Rattle.lat_audit.proofs.DumpedImages.{image_of, dumped_images, are_roots, maps_back, few_images, dumped_image}
 
 module _ (L : Lattice) (D : IsDumped L) where
@@ -21,7 +21,7 @@ module _ (L : Lattice) (D : IsDumped L) where
   -- each row and each image may stand where it stands
   pub is_content : IsContent content_of
   is_content = record {
-    enough = ?;
+    enough = enough_rows L D;
     few = (rows_of_first L D).room;
     rows = dumped_row L D;
     few_images = few_images L D;
@@ -30,7 +30,16 @@ module _ (L : Lattice) (D : IsDumped L) where
 
   -- its text is the dump
   pub content_is_dumped : content_text content_of ≡ dump_text L
-  content_is_dumped = ?
+  content_is_dumped =
+      let number : edition_number first_edition ≡ edition_number L.edition = ap edition_number (sym D.edition) in
+      let count : length (dumped_images L D) ≡ len L.maps
+      = length-map (entries L.maps) (image_of L.rows) ∙ sym (len-entries L.maps) in
+      let lines : image_lines (dumped_images L D) ≡ map_lines L
+      = flat_map-map (λ (e : Image). map_line e.0 e.1) (image_of L.rows) (entries L.maps) in
+      λ i. header_line (number i)
+      ++ (fields_line (length L.rows) ++ field_lines 0 L.rows)
+      ++ (maps_line (count i) ++ lines i)
+      ++ end_line
 
   -- it holds the lattice
   pub content_holds : lattice_of content_of ≡ L

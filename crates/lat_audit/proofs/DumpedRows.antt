@@ -1,5 +1,5 @@
 -- The rows of a lattice of the first edition: each may stand behind those before it in a dump.
-use Rattle.std.proofs.Common.{◌≡◌, ◌≢◌, ℕ, ◌-◌, ◌<◌, ◌≤◌, List, ◌∷◌, ◌++◌, length, get_or, take, map, sym, ap, ◌∙◌, subst, inl, inr, ⊎_elim, arith, decimal, get_or-take}
+use Rattle.std.proofs.Common.{◌≡◌, ◌≢◌, ℕ, ◌-◌, ◌<◌, ◌≤◌, List, ◌∷◌, ◌++◌, length, get_or, take, map, sym, ap, ◌∙◌, subst, inl, inr, ⊎_elim, arith, decimal, get_or-take, length-take}
 use Rattle.std.specs.Prelude.{◌⊎◌, All, slice_index, slice_index_or}
 use Rattle.std.proofs.lemmas.List.{get_or-map}
 use Rattle.std.proofs.lemmas.Bool.{cases_lt, cases_eq}
@@ -22,6 +22,12 @@ new_name rows name (inr (n, l, e)) (inl first) other = absurd (first (ap (λ t. 
 -- ---- rows
 pub rows_of_first : (L : Lattice) → IsDumped L → IsRows first_edition L.rows
 rows_of_first L D = subst (λ e. IsRows e L.rows) D.edition D.compatible.rows
+
+-- the prime fields are there
+pub enough_rows : (L : Lattice) → IsDumped L → length first_edition.primes ≤ length L.rows
+enough_rows L D =
+    let all : length (take 11 L.rows) ≡ 11 = ap length (rows_of_first L D).prime_fields in
+    omega (arith, all, length-take 11 L.rows)
 
 module _ (L : Lattice) (D : IsDumped L) (before behind : List Row) (row : Row)
     (is : L.rows ≡ before ++ row ∷ behind) where
