@@ -1,12 +1,12 @@
 -- The dump of a lattice of the first edition is a dump, of fields and embeddings.
 --     content_of L     what the dump of L holds
-use Rattle.std.proofs.Common.{◌≡◌, ℕ, List, length, map, sym, ap, ap₂, ◌∙◌, subst}
-use Rattle.std.specs.Prelude.{Contains, ◌++◌}
+use Rattle.std.proofs.Common.{◌≡◌, length, sym, ap, ◌∙◌, subst}
+use Rattle.std.specs.Prelude.{◌++◌}
 use Rattle.std.specs.FinMap.{len, entries, len-entries}
 use Rattle.std.proofs.lemmas.List.{length-map}
 use Rattle.std.proofs.lemmas.List.Elements.{All-contains}
 use Rattle.std.proofs.lemmas.List.Folds.{flat_map-map}
-use Rattle.alg_model.specs.Lattices.{first_edition, Row, Lattice}
+use Rattle.alg_model.specs.Lattices.{first_edition, Lattice}
 use Rattle.lat_audit.specs.Dumps.{edition_number, header_line, fields_line, field_lines, maps_line, map_line, map_lines, end_line, dump_text}
 use Rattle.lat_audit.specs.Readings.{Image, Content, IsDump, lattice_of}
 use Rattle.lat_audit.specs.Verdicts.{None, IsReducible, IsGeneratorImage, IsWrongImage, IsDumped}
@@ -49,14 +49,16 @@ module _ (L : Lattice) (D : IsDumped L) where
   no_reducible i r = r.reducible (D.compatible.rows.row i r.within).field.irreducible
 
   pub no_wrong : None (IsWrongImage content_of)
-  no_wrong pair w = w.2 (All-contains (λ (x : Image). IsGeneratorImage L.rows x.0.0 x.0.1 x.1) (dumped_images L D) (pair, w.0) (are_roots L D) w.1)
+  no_wrong pair w = w.2 (All-contains (λ (x : Image). IsGeneratorImage L.rows x.0.0 x.0.1 x.1)
+      (dumped_images L D) (pair, w.0) (are_roots L D) w.1)
 
 module _ (content_read : (c : Content) → IsContent c → IsDump (content_text c) c) where
-  pub dumped_content : (L : Lattice) → IsDumped L → (c : Content) × IsDump (dump_text L) c × (lattice_of c ≡ L)
-      × None (IsReducible c.rows) × None (IsWrongImage c)
+  pub dumped_content : (L : Lattice) → IsDumped L → (c : Content) × IsDump (dump_text L) c
+      × (lattice_of c ≡ L) × None (IsReducible c.rows) × None (IsWrongImage c)
   dumped_content L D = (
     content_of L D,
-    subst (λ text. IsDump text (content_of L D)) (content_is_dumped L D) (content_read (content_of L D) (is_content L D)),
+    subst (λ text. IsDump text (content_of L D)) (content_is_dumped L D)
+        (content_read (content_of L D) (is_content L D)),
     content_holds L D,
     no_reducible L D,
     no_wrong L D,

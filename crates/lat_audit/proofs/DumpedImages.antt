@@ -2,13 +2,13 @@
 -- it, is that of an embedding, and gives its map back.
 --     image_of rows e     the pair of an entry, and the image of the generator
 --     IsMapEntry rows e     an embedding between two of the fields
-use Rattle.std.proofs.Common.{◌≡◌, ℕ, zero, suc, ◌+◌, ◌*◌, ◌<◌, ◌≤◌, List, [], ◌∷◌, ◌++◌, length, get_or, map, refl, sym, ap, ap₂, ◌∙◌, subst, arith}
-use Rattle.std.specs.Prelude.{All, AllPairs, Contains, slice_index_or}
+use Rattle.std.proofs.Common.{◌≡◌, ℕ, suc, ◌+◌, ◌<◌, ◌≤◌, List, [], ◌∷◌, ◌++◌, length, get_or, map, refl, sym, ap, ap₂, ◌∙◌, subst, arith}
+use Rattle.std.specs.Prelude.{All, AllPairs}
 use Rattle.std.specs.FinMap.{entries, from_entries}
 use Rattle.std.proofs.lemmas.List.{get_or-map, length-map}
-use Rattle.std.proofs.lemmas.List.Elements.{All-head, All-tail, All-map, All-get_or}
-use Rattle.alg_model.specs.Maps.{Field, IsFiniteField, field_values, degree_of, generator, constants, apply, IsEmbedding}
-use Rattle.alg_model.specs.Lattices.{first_edition, Row, Lattice, IsRows, Stored, field_at, no_row, pair_cmp}
+use Rattle.std.proofs.lemmas.List.Elements.{All-map}
+use Rattle.alg_model.specs.Maps.{IsFiniteField, generator, IsEmbedding}
+use Rattle.alg_model.specs.Lattices.{Row, Lattice, Stored, field_at}
 use Rattle.alg_compatible.proofs.Tables.{pair_total, pair_antisymmetric}
 use Rattle.alg_galois.proofs.Embeddings.{apply_valid, generator_is_value, embedding_is_powers_of_image}
 use Rattle.alg_galois.proofs.EmbeddingRoots.{generator_image_root}
@@ -57,7 +57,8 @@ module _ (rows : List Row) (e : Entry) (M : IsMapEntry rows e) where
 all_back : {A B : Type 0} (f : A → B) (g : B → A) (xs : List A) → All (λ x. g (f x) ≡ x) xs
     → map g (map f xs) ≡ xs
 all_back f g [] h = refl
-all_back f g (x ∷ xs) h = ap₂ (λ y ys. y ∷ ys) (h 0 x (omega arith)) (all_back f g xs (λ k d l. h (suc k) d (omega (arith, l))))
+all_back f g (x ∷ xs) h = ap₂ (λ y ys. y ∷ ys) (h 0 x (omega arith))
+    (all_back f g xs (λ k d l. h (suc k) d (omega (arith, l))))
 
 rising_map : {A B : Type 0} (R : B → B → Type 0) (f : A → B) (xs : List A) → A
     → AllPairs (λ a b. R (f a) (f b)) xs → AllPairs R (map f xs)
@@ -94,7 +95,8 @@ module _ (L : Lattice) (D : IsDumped L) where
       (λ k d l. is_image L.rows (get_or (entries L.maps) k d) (are_entries k d l))
 
   pub images_rise : IsRising dumped_images
-  images_rise = rising_map (λ (a b : Image). IsBefore a.0 b.0) (image_of L.rows) (entries L.maps) no_entry (entries_rise pair_total L.maps)
+  images_rise = rising_map (λ (a b : Image). IsBefore a.0 b.0) (image_of L.rows) (entries L.maps) no_entry
+      (entries_rise pair_total L.maps)
 
   -- **of embeddings**
   pub are_roots : AreGeneratorImages L.rows dumped_images

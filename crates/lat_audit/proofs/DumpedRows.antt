@@ -1,11 +1,11 @@
 -- The rows of a lattice of the first edition: each may stand behind those before it in a dump.
-use Rattle.std.proofs.Common.{◌≡◌, ◌≢◌, ℕ, ◌-◌, ◌<◌, ◌≤◌, List, ◌∷◌, ◌++◌, length, get_or, take, map, sym, ap, ◌∙◌, subst, inl, inr, ⊎_elim, arith, decimal, get_or-take, length-take}
+use Rattle.std.proofs.Common.{◌≡◌, ◌≢◌, ℕ, ◌<◌, ◌≤◌, List, ◌∷◌, ◌++◌, length, get_or, take, sym, ap, ◌∙◌, subst, inl, inr, ⊎_elim, arith, get_or-take, length-take}
 use Rattle.std.specs.Prelude.{◌⊎◌, All, slice_index, slice_index_or}
 use Rattle.std.proofs.lemmas.List.{get_or-map}
 use Rattle.std.proofs.lemmas.Bool.{cases_lt, cases_eq}
-use Rattle.alg_model.specs.Maps.{Field, degree_of}
+use Rattle.alg_model.specs.Maps.{degree_of}
 use Rattle.alg_model.specs.Lattices.{first_edition, Row, Lattice, IsRow, IsRows, prime_row, made_name, no_row, field_at}
-use Rattle.lat_core.specs.Names.{IsDeclaredName, IsFieldName}
+use Rattle.lat_core.specs.Names.{IsFieldName}
 use Rattle.lat_audit.specs.Readings.{IsNewName, IsNewRow, IsNextRow}
 use Rattle.lat_audit.specs.Verdicts.{IsDumped}
 use Rattle.lat_audit.proofs.SplitLists.{split_within, split_at, split_pairs}
@@ -58,8 +58,10 @@ module _ (L : Lattice) (D : IsDumped L) (before behind : List Row) (row : Row)
   above_one many =
       let more : 1 < length row.field.polynomial = own.field.irreducible.not_constant in
       ⊎_elim
-      (λ one. let same : degree_of (field_at L.rows (length before)) ≡ 1 = ap (λ (r : Row). degree_of r.field) at ∙ one in
-      let few : length before < length L.edition.primes = D.compatible.compatible.only_degree_one (length before) within same in
+      (λ one. let same : degree_of (field_at L.rows (length before)) ≡ 1
+      = ap (λ (r : Row). degree_of r.field) at ∙ one in
+      let few : length before < length L.edition.primes
+      = D.compatible.compatible.only_degree_one (length before) within same in
       let primes : length L.edition.primes ≡ length first_edition.primes = ap (λ e. length e.primes) D.edition in
       absurd (omega (arith, few, primes, many)))
       (λ other. omega (arith, more, other))

@@ -1,5 +1,5 @@
 -- The entries of a finite map by their places, and how many there may be of pairs.
-use Rattle.std.proofs.Common.{◌≡◌, ℕ, zero, suc, ◌+◌, ◌*◌, ◌-◌, ◌<◌, ◌≤◌, Bool, true, false, cond, List, [], ◌∷◌, length, get_or, refl, sym, ap, ◌∙◌, Option, Some, None, is_some, Ordering, Less, Equal, Greater, ⊎_elim, arith}
+use Rattle.std.proofs.Common.{◌≡◌, ℕ, zero, suc, ◌+◌, ◌*◌, ◌-◌, ◌<◌, ◌≤◌, Bool, true, false, cond, List, [], ◌∷◌, length, get_or, refl, sym, ap, ◌∙◌, Some, Ordering, Less, ⊎_elim, arith}
 use Rattle.std.specs.Prelude.{All, AllPairs}
 use Rattle.std.specs.Cmp.{IsTotalOrder}
 use Rattle.std.specs.Ordering.{eq_by_cmp, is_eq, is_lt, ordering_reverse}
@@ -88,7 +88,8 @@ module _ {X : Type 0} (n : ℕ) (es : List ((ℕ × ℕ) × X))
   place_at (suc k) d l =
       let before : k ≤ place n (get_or es k d).0 = place_at k d (omega (arith, l)) in
       let more : place n (get_or es k d).0 < place n (get_or es (suc k) d).0
-      = place_rises n (get_or es k d).0 (get_or es (suc k) d).0 (within k d (omega (arith, l))).1 (rising k (suc k) d (omega arith) l) in
+      = place_rises n (get_or es k d).0 (get_or es (suc k) d).0 (within k d (omega (arith, l))).1
+      (rising k (suc k) d (omega arith) l) in
       omega (arith, before, more)
 
   place_below : (a : ℕ × ℕ) → a.0 < n → a.1 < n → place n a < n * n
@@ -99,7 +100,8 @@ module _ {X : Type 0} (n : ℕ) (es : List ((ℕ × ℕ) × X))
       let last : length es - 1 < length es = omega (arith, some) in
       let count : length es - 1 ≤ place n (get_or es (length es - 1) d).0 = place_at (length es - 1) d last in
       let here = within (length es - 1) d last in
-      let below : place n (get_or es (length es - 1) d).0 < n * n = place_below (get_or es (length es - 1) d).0 here.0 here.1 in
+      let below : place n (get_or es (length es - 1) d).0 < n * n
+      = place_below (get_or es (length es - 1) d).0 here.0 here.1 in
       omega (arith, count, below)
 
 -- **pairs of numbers below n that rise are at most n * n**
