@@ -15,3 +15,6 @@ pub mod RuleMaps
 pub mod RuleOrders
 pub mod RuleDegrees
 pub mod RuleFaults
+pub mod ContentRows
+pub mod LineFeeds
+pub mod WrittenContents
