@@ -13,6 +13,7 @@ use Rattle.lat_audit.specs.Verdicts.{None, IsReducible, IsGeneratorImage, IsWron
 use Rattle.lat_audit.specs.PrivateContents.{IsContent, image_lines, content_text}
 use Rattle.lat_audit.proofs.DumpedRows.{rows_of_first, enough_rows, dumped_row}
 use Rattle.lat_audit.proofs.DumpedImages.{image_of, dumped_images, are_roots, maps_back, few_images, dumped_image}
+use Rattle.lat_audit.proofs.WrittenContents.{content_read}
 
 module _ (L : Lattice) (D : IsDumped L) where
   abbrev pub content_of : Content
@@ -52,14 +53,14 @@ module _ (L : Lattice) (D : IsDumped L) where
   no_wrong pair w = w.2 (All-contains (λ (x : Image). IsGeneratorImage L.rows x.0.0 x.0.1 x.1)
       (dumped_images L D) (pair, w.0) (are_roots L D) w.1)
 
-module _ (content_read : (c : Content) → IsContent c → IsDump (content_text c) c) where
-  pub dumped_content : (L : Lattice) → IsDumped L → (c : Content) × IsDump (dump_text L) c
-      × (lattice_of c ≡ L) × None (IsReducible c.rows) × None (IsWrongImage c)
-  dumped_content L D = (
-    content_of L D,
-    subst (λ text. IsDump text (content_of L D)) (content_is_dumped L D)
-        (content_read (content_of L D) (is_content L D)),
-    content_holds L D,
-    no_reducible L D,
-    no_wrong L D,
-  )
+-- **the dump of a lattice is a dump of fields and embeddings, and of that lattice**
+pub dumped_content : (L : Lattice) → IsDumped L → (c : Content) × IsDump (dump_text L) c
+    × (lattice_of c ≡ L) × None (IsReducible c.rows) × None (IsWrongImage c)
+dumped_content L D = (
+  content_of L D,
+  subst (λ text. IsDump text (content_of L D)) (content_is_dumped L D)
+      (content_read (content_of L D) (is_content L D)),
+  content_holds L D,
+  no_reducible L D,
+  no_wrong L D,
+)

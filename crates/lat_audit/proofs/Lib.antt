@@ -4,7 +4,6 @@ pub mod EntryPlaces
 pub mod SplitLists
 pub mod DumpedRows
 pub mod DumpedImages
-pub mod DumpedContents
 pub mod DumpedLines
 pub mod LineWords
 pub mod ReadRows
@@ -18,3 +17,4 @@ pub mod RuleFaults
 pub mod ContentRows
 pub mod LineFeeds
 pub mod WrittenContents
+pub mod DumpedContents
