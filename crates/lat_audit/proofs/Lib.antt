@@ -1,5 +1,9 @@
 pub mod SortedEntries
 pub mod StoredMaps
+pub mod EntryPlaces
+pub mod SplitLists
+pub mod DumpedRows
+pub mod DumpedImages
 pub mod DumpedLines
 pub mod LineWords
 pub mod ReadRows
@@ -13,3 +17,7 @@ pub mod RuleFaults
 pub mod OneReading
 pub mod CompatibleRules
 pub mod OneVerdict
+pub mod ContentRows
+pub mod LineFeeds
+pub mod WrittenContents
+pub mod DumpedContents
