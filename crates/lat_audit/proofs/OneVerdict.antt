@@ -14,6 +14,7 @@ use Rattle.lat_audit.specs.Verdicts.{IsFirst, None, Triple, triple_cmp, IsReduci
 use Rattle.lat_audit.specs.declared.verdicts.AuditVerdict.{AuditVerdict}
 use Rattle.lat_audit.specs.declared.verdicts.AuditVerdict.TheVariants.{Good, BadText, BadField, BadMap, BadRule, NoMemory}
 use Rattle.lat_audit.proofs.CompatibleRules.{identities_stored, prime_subfields_stored, inverses_stored, compositions_stored, intersections_stored}
+use Rattle.lat_audit.proofs.DumpedContents.{dumped_content}
 use Rattle.lat_audit.proofs.OneReading.{one_reading}
 use Rattle.lat_audit.proofs.RuleOrders.{one_prime}
 
@@ -172,65 +173,59 @@ by_compatible M C = inr (
   ),
 )
 
--- what the dump of a lattice says
-abbrev pub DumpHasContent : Type 0
-DumpHasContent = (L : Lattice) → IsDumped L → (c : Content) × IsDump (dump_text L) c
-    × (lattice_of c ≡ L) × None (IsReducible c.rows) × None (IsWrongImage c)
-
 -- a text that is judged good is the dump of the lattice
 dump_judged : (text : List ℕ) (M : Lattice) → Judges text (Good M) → text ≡ dump_text M
 dump_judged text M (good dumped is) = is
 
-module _ (dumped_content : DumpHasContent) where
-  by_dump : (text : List ℕ) (M : Lattice) → IsDumped M → text ≡ dump_text M → Tells text (Good M)
-  by_dump text M dumped is =
-      let (c, dump, same, fields, maps) = dumped_content M dumped in
-      by_rules text c (Good M)
-      (record { dump = subst (λ t. IsDump t c) (sym is) dump; fields = fields; maps = maps })
-      (subst (λ (K : Lattice). ByRules K (Good M)) (sym same) (by_compatible M dumped.compatible))
+by_dump : (text : List ℕ) (M : Lattice) → IsDumped M → text ≡ dump_text M → Tells text (Good M)
+by_dump text M dumped is =
+    let (c, dump, same, fields, maps) = dumped_content M dumped in
+    by_rules text c (Good M)
+    (record { dump = subst (λ t. IsDump t c) (sym is) dump; fields = fields; maps = maps })
+    (subst (λ (K : Lattice). ByRules K (Good M)) (sym same) (by_compatible M dumped.compatible))
 
-  -- a verdict is what the text tells
-  told : (text : List ℕ) (v : AuditVerdict) → v ≢ NoMemory → Judges text v → Tells text v
-  told text v some (good {L = M} dumped is) = by_dump text M dumped is
-  told text v some (bad_text {n} bad) = inl (n, bad, refl)
-  told text v some (bad_field c {i} dump first) = inr (c, dump, inl (i, first, refl))
-  told text v some (bad_map c {i} {j} dump fields first) = inr (c, dump, inr (fields, inl ((i, j), first, refl)))
-  told text v some (identity c {i} holds first) = by_rules text c (BadRule 2 i i i) holds (inl (i, first, refl))
-  told text v some (prime_subfield c {q} {j} keeps first prime) =
-      by_rules text c (BadRule 3 q j j) keeps.embeddings (inr (keeps.kept, inl (j, first, (q, prime, refl))))
-  told text v some (inverse c {i} {j} keeps first) =
-      let before = keeps.before in
-      by_rules text c (BadRule 4 i j j) before.embeddings
-      (inr (before.kept, inr (keeps.kept, inl ((i, j), first, refl))))
-  told text v some (transitivity c {i} {j} {k} keeps first) =
-      let primes = keeps.before in
-      let identities = primes.before in
-      by_rules text c (BadRule 5 i j k) identities.embeddings
-      (inr (identities.kept, inr (primes.kept, inr (keeps.kept, inl ((i, j, k), first, refl)))))
-  told text v some (intersection c {i} {j} {k} keeps first) =
-      let inverses = keeps.before in
-      let primes = inverses.before in
-      let identities = primes.before in
-      by_rules text c (BadRule 6 i j k) identities.embeddings
-      (inr (identities.kept, inr (primes.kept, inr (inverses.kept, inr (keeps.kept, inl ((i, j, k), first, refl))))))
-  told text v some no_memory = absurd (some refl)
+-- a verdict is what the text tells
+told : (text : List ℕ) (v : AuditVerdict) → v ≢ NoMemory → Judges text v → Tells text v
+told text v some (good {L = M} dumped is) = by_dump text M dumped is
+told text v some (bad_text {n} bad) = inl (n, bad, refl)
+told text v some (bad_field c {i} dump first) = inr (c, dump, inl (i, first, refl))
+told text v some (bad_map c {i} {j} dump fields first) = inr (c, dump, inr (fields, inl ((i, j), first, refl)))
+told text v some (identity c {i} holds first) = by_rules text c (BadRule 2 i i i) holds (inl (i, first, refl))
+told text v some (prime_subfield c {q} {j} keeps first prime) =
+    by_rules text c (BadRule 3 q j j) keeps.embeddings (inr (keeps.kept, inl (j, first, (q, prime, refl))))
+told text v some (inverse c {i} {j} keeps first) =
+    let before = keeps.before in
+    by_rules text c (BadRule 4 i j j) before.embeddings
+    (inr (before.kept, inr (keeps.kept, inl ((i, j), first, refl))))
+told text v some (transitivity c {i} {j} {k} keeps first) =
+    let primes = keeps.before in
+    let identities = primes.before in
+    by_rules text c (BadRule 5 i j k) identities.embeddings
+    (inr (identities.kept, inr (primes.kept, inr (keeps.kept, inl ((i, j, k), first, refl)))))
+told text v some (intersection c {i} {j} {k} keeps first) =
+    let inverses = keeps.before in
+    let primes = inverses.before in
+    let identities = primes.before in
+    by_rules text c (BadRule 6 i j k) identities.embeddings
+    (inr (identities.kept, inr (primes.kept, inr (inverses.kept, inr (keeps.kept, inl ((i, j, k), first, refl))))))
+told text v some no_memory = absurd (some refl)
 
-  -- **a text has one verdict**
-  pub text_has_one_verdict : TextHasOneVerdict
-  text_has_one_verdict text v w some other judged also =
-      one_told text v w (told text v some judged) (told text w other also)
+-- **a text has one verdict**
+pub text_has_one_verdict : TextHasOneVerdict
+text_has_one_verdict text v w some other judged also =
+    one_told text v w (told text v some judged) (told text w other also)
 
-  -- **the dump of a lattice is judged good**
-  pub dump_is_judged_good : DumpIsGood
-  dump_is_judged_good M v dumped some judged =
-      text_has_one_verdict (dump_text M) v (Good M) some (λ e. cc) judged (good dumped refl)
+-- **the dump of a lattice is judged good**
+pub dump_is_judged_good : DumpIsGood
+dump_is_judged_good M v dumped some judged =
+    text_has_one_verdict (dump_text M) v (Good M) some (λ e. cc) judged (good dumped refl)
 
-  -- **a lattice has one spelling**
-  pub lattice_has_one_spelling : LatticeHasOneSpelling
-  lattice_has_one_spelling M N text other first second = (
-    λ e. let judged = subst (λ t. Judges t (Good M)) e first in
-        let same : Good M ≡ Good N =
-        text_has_one_verdict other (Good M) (Good N) (λ f. cc) (λ f. cc) judged second in
-        cc,
-    λ e. dump_judged text M first ∙ ap dump_text e ∙ sym (dump_judged other N second),
-  )
+-- **a lattice has one spelling**
+pub lattice_has_one_spelling : LatticeHasOneSpelling
+lattice_has_one_spelling M N text other first second = (
+  λ e. let judged = subst (λ t. Judges t (Good M)) e first in
+      let same : Good M ≡ Good N =
+      text_has_one_verdict other (Good M) (Good N) (λ f. cc) (λ f. cc) judged second in
+      cc,
+  λ e. dump_judged text M first ∙ ap dump_text e ∙ sym (dump_judged other N second),
+)
