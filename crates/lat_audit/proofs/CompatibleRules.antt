@@ -1,5 +1,5 @@
 -- A compatible lattice breaks no rule.
-use Rattle.std.proofs.Common.{◌≡◌, ℕ, ◌<◌, List, length, sym, ap, ◌∙◌}
+use Rattle.std.proofs.Common.{ℕ, ◌<◌, List, length, sym, ap, ◌∙◌}
 use Rattle.alg_model.specs.Lattices.{Lattice, Row, Stored, IsCompatible}
 use Rattle.alg_compatible.proofs.Transfer.{prime_row_at}
 use Rattle.lat_audit.specs.Verdicts.{None, IsPrimeField, LacksIdentity, LacksPrimeSubfield, LacksInverse, LacksComposition, LacksIntersection}

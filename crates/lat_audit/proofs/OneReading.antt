@@ -1,24 +1,22 @@
 -- Lines say one thing.
-use Rattle.std.proofs.Common.{◌≡◌, Bool, true, false, ℕ, ◌+◌, ◌<◌, ◌≤◌, ◌^◌, Result, Ok, Err, List, [], ◌∷◌, ◌++◌, length, sym, refl, ap, ◌∙◌, subst, inl, inr, ⊎_elim, arith, decimal}
-use Rattle.std.specs.Prelude.{◌⊎◌, ◌==◌, if◌then◌else◌, All, codes}
+use Rattle.std.proofs.Common.{◌≡◌, Bool, true, false, ℕ, ◌+◌, ◌<◌, ◌≤◌, ◌^◌, Result, Ok, List, [], ◌∷◌, ◌++◌, length, sym, refl, ap, ◌∙◌, subst, inl, inr, ⊎_elim, arith, decimal}
+use Rattle.std.specs.Prelude.{◌==◌, if◌then◌else◌, All, codes}
 use Rattle.std.specs.List.{join_with_byte}
 use Rattle.std.proofs.lemmas.Bool.{cases_eq}
 use Rattle.std.proofs.lemmas.Fmt.{decimal_injective}
 use Rattle.std.proofs.lemmas.List.{length_push}
 use Rattle.std.proofs.lemmas.List.Elements.{All-get_or, All-push, All-nil}
-use Rattle.alg_model.specs.Maps.{field_values}
 use Rattle.alg_model.specs.Lattices.{first_edition, Row, field_at, no_row}
 use Rattle.lat_core.specs.Digits.{AreDigits}
 use Rattle.lat_language.specs.CanonicalText.{line_of}
 use Rattle.lat_language.specs.Commands.{digits_text}
 use Rattle.lat_language.specs.PrivateCoefficients.{digits_text_injective}
-use Rattle.lat_audit.specs.Dumps.{fields_line, field_line, maps_line, map_line}
+use Rattle.lat_audit.specs.Dumps.{field_line, map_line}
 use Rattle.lat_audit.specs.Readings.{ended_lines, Image, Content, IsNextRow, IsNextImage, Place, Header, FieldCount, Field, MapCount, Map, End, Behind, field_place, map_place, LeadsTo, Reading}
-use Rattle.lat_audit.specs.PrivateReadings.{IsFieldPoly, AreFieldWords, AreMapWords}
-use Rattle.lat_audit.specs.declared.line_forms.TheConstants.{MAX_MAPS}
+use Rattle.lat_audit.specs.PrivateReadings.{IsFieldPoly}
 use Rattle.lat_audit.proofs.LineWords.{counted_once, one_field, one_map}
 use Rattle.lat_audit.proofs.ReadRows.{characteristic_small, poly_digits, value_digits, next_poly, row_words, image_words}
-use Rattle.lat_audit.proofs.ReadLines.{field_asked, fields_done, map_asked, maps_done}
+use Rattle.lat_audit.proofs.ReadLines.{field_asked, fields_done}
 
 -- ---- a line is that of one row, or of one image
 abbrev HasPoly : Row → Type 0
