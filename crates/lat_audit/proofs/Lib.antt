@@ -1,5 +1,9 @@
 pub mod SortedEntries
 pub mod StoredMaps
+pub mod EntryPlaces
+pub mod SplitLists
+pub mod DumpedRows
+pub mod DumpedImages
 pub mod DumpedLines
 pub mod LineWords
 pub mod ReadRows
@@ -10,6 +14,9 @@ pub mod RuleMaps
 pub mod RuleOrders
 pub mod RuleDegrees
 pub mod RuleFaults
+pub mod OneReading
+pub mod CompatibleRules
+pub mod OneVerdict
 pub mod ContentRows
 pub mod LineFeeds
 pub mod WrittenContents
@@ -24,3 +31,4 @@ pub mod KeptRows
 pub mod KeptImages
 pub mod KeptContents
 pub mod SomeVerdict
+pub mod DumpedContents

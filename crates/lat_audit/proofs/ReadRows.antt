@@ -179,7 +179,7 @@ name_lacks rows r small (inl (few, e)) =
     (All-cons (λ b. b ≢ 32) 70 (decimal p) (λ t. omega (arith, t)) (decimal_lacks p fits))
 name_lacks rows r small (inr (many, new)) = new_lacks rows r.name small new.0
 
-row_words : (rows : List Row) (line : List ℕ) (r : Row) → length rows < 2 ^ 64 → IsNextRow rows r
+pub row_words : (rows : List Row) (line : List ℕ) (r : Row) → length rows < 2 ^ 64 → IsNextRow rows r
     → ended line ≡ field_line (length rows) r
     → AreFieldWords line (decimal (length rows)) r.name (decimal r.field.characteristic) (digits_text r.field.polynomial)
 row_words rows line r small next e =
@@ -275,7 +275,7 @@ module _ (images : List Image) (last : Image) (pair : ℕ × ℕ) (rising : IsRi
       subst (λ (e : Image). IsBefore e.0 pair) (slice_get_is images (length images - 1) last last is)
       (All-get_or (λ (e : Image). IsBefore e.0 pair) images (length images - 1) last (omega (arith, some)) all)
 
-image_words : (rows : List Row) (images : List Image) (line : List ℕ) (e : Image)
+pub image_words : (rows : List Row) (images : List Image) (line : List ℕ) (e : Image)
     → length rows ≤ MAX_FIELDS → IsNextImage rows images e → ended line ≡ map_line e.0 e.1
     → AreMapWords line (decimal e.0.0) (decimal e.0.1) (digits_text e.1)
 image_words rows images line e few next is =

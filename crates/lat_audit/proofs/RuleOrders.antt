@@ -80,8 +80,8 @@ pub told_false : (P Q : Type 0) (b : Bool) → b ≡ false → MatchBool b P Q �
 told_false P Q b e h = subst (λ t. MatchBool t P Q) e h
 
 -- ---- prime subfields
-module _ (L : Lattice) (E : IsOfEdition L) where
-  one_prime : (p q j : ℕ) → IsPrimeField L p j → IsPrimeField L q j → p ≡ q
+module _ (L : Lattice) (edition : L.edition ≡ first_edition) where
+  pub one_prime : (p q j : ℕ) → IsPrimeField L p j → IsPrimeField L q j → p ≡ q
   one_prime p q j a b = ⊎_elim (λ e. e)
       (λ apart. absurd (⊎_elim
       (λ l. differ p q l a b)
@@ -91,16 +91,17 @@ module _ (L : Lattice) (E : IsOfEdition L) where
     where
       differ : (p q : ℕ) → p < q → IsPrimeField L p j → IsPrimeField L q j → ⊥
       differ p q l a b =
-          let primes = ap (λ e. e.primes) E.edition in
+          let primes = ap (λ e. e.primes) edition in
           let within : q < length first_edition.primes = subst (λ ps. q < length ps) primes b.within in
           first_is_edition.primes_differ p q 0 l within
           (subst (λ ps. slice_index ps p ≡ slice_index ps q) primes (a.prime ∙ sym b.prime))
 
+module _ (L : Lattice) (E : IsOfEdition L) where
   pub lacks_prime : (q j : ℕ) → j < length L.rows → IsPrimeField L q j → get L.maps (q, j) ≡ None
       → LacksPrimeSubfield L j
   lacks_prime q j l prime none = record {
     within = l;
-    lacking = λ p m is s. none_stored L q j m none (subst (λ n. Stored L n j m) (one_prime p q j is prime) s);
+    lacking = λ p m is s. none_stored L q j m none (subst (λ n. Stored L n j m) (one_prime L E.edition p q j is prime) s);
   }
 
   pub not_lacking : (j : ℕ) → HasPrimeSubfield L j → LacksPrimeSubfield L j → ⊥
