@@ -10,6 +10,8 @@ pub mod ReadRows
 pub mod ReadLines
 pub mod ReadMaps
 pub mod PairPlaces
+pub mod LeadFields
+pub mod LeadCompositions
 pub mod RuleMaps
 pub mod RuleOrders
 pub mod RuleDegrees

@@ -2,6 +2,7 @@ pub mod Dumps
 pub mod PrivateContents
 pub mod PrivateDumps
 pub mod PrivateFaults
+pub mod PrivateLeaders
 pub mod PrivateReadings
 pub mod PrivateRules
 pub mod PrivateTables

@@ -1,6 +1,7 @@
 //! Dumps: the text of a lattice, and the verdict on a text that is meant to be one.
 #![tactic(auto)]
 
+mod compositions;
 mod contents;
 mod cuts;
 mod dumps;
