@@ -5,7 +5,7 @@ ghost use Rattle.std.specs.FinMap.{get};
 ghost use Rattle.std.specs.Int.{IsGcd};
 ghost use Rattle.std.specs.Bool.{MatchBool};
 ghost use Rattle.std.specs.Ordering.{nat_cmp};
-ghost use Rattle.alg_model.specs.Maps.{comp, identity_map};
+ghost use Rattle.alg_model.specs.Maps.{degree_of, comp, identity_map};
 ghost use Rattle.alg_model.specs.Lattices.{field_at, pair_cmp, Stored};
 ghost use Rattle.lat_core.specs.SharedRows.{IsBetween};
 ghost use Rattle.lat_audit.specs.Verdicts.{IsFirst, triple_cmp, LacksIdentity, IsPrimeField, LacksPrimeSubfield, HasInverse, LacksInverse, LacksComposition, LacksIntersection};
@@ -283,14 +283,16 @@ fn gcd(a: u32, b: u32) -> u32
 }
 
 // Whether field l goes into both, and has the degree of their intersection.
-fn is_common_subfield(table: &Table, i: u32, j: u32, l: u32) -> bool
+fn is_common_subfield(table: &Table, i: u32, j: u32, l: u32, degree: u32) -> bool
     requires first { i < length table.now.rows }
     requires second { j < length table.now.rows }
     requires third { l < length table.now.rows }
+    requires degree { IsGcd (degree_of (field_at table.now.rows i))
+        (degree_of (field_at table.now.rows j)) degree }
     ensures { MatchBool result (IsCommonSubfield table.now i j l)
         (¬ IsCommonSubfield table.now i j l) }
 {
-    if table.degree(l) != gcd(table.degree(i), table.degree(j)) {
+    if table.degree(l) != degree {
         return false;
     }
     has_map(table, l, i) && has_map(table, l, j)
@@ -303,8 +305,9 @@ fn have_intersection(table: &Table, i: u32, j: u32) -> bool
     ensures { MatchBool result ((l : ℕ) × IsCommonSubfield table.now i j l)
         ((l : ℕ) → ¬ IsCommonSubfield table.now i j l) }
 {
+    let degree = gcd(table.degree(i), table.degree(j));
     for l in 0..table.count() {
-        if is_common_subfield(table, i, j, l) {
+        if is_common_subfield(table, i, j, l, degree) {
             return true;
         }
     }

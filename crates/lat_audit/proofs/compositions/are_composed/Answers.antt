@@ -15,7 +15,7 @@ loop-i-preserved c =
     let own : (b : ℕ) → b < length L.rows → KeepsToLeaders L leaders i b =
     subst (λ (x : List ℕ). (b : ℕ) → b < length L.rows → KeepsToLeaders L x i b) c.as_slice.ensures.value (c.keeps_from.ensures.own kept) in
     let leads : leader leaders i ≡ i → (b e : ℕ) → b < length L.rows → e < length L.rows → leader leaders b ≡ b
-        → leader leaders e ≡ e → KeepsComposition L i b e =
+    → leader leaders e ≡ e → KeepsComposition L i b e =
     subst (λ (x : List ℕ). leader x i ≡ i → (b e : ℕ) → b < length L.rows → e < length L.rows → leader x b ≡ b
     → leader x e ≡ e → KeepsComposition L i b e) c.as_slice.ensures.value (c.keeps_from.ensures.leads kept) in (
       λ a b la lb. one_more {Good = λ (x : ℕ). (y : ℕ) → y < length L.rows → KeepsToLeaders L leaders x y} i
