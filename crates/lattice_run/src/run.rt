@@ -4,7 +4,6 @@ ghost use Rattle.std.specs.Prelude.{◌≡◌, ◌≤◌, ◌+◌, true, false, 
 ghost use Rattle.lat_gen.specs.Theorems.{AreSizes};
 ghost use Rattle.lat_io.specs.Source.{TakesAtMost};
 ghost use Rattle.lat_io.specs.Streams.{stream, Stream};
-ghost use Rattle.lat_audit.specs.declared.verdict_lines.TheConstants.{MAX_DUMP};
 ghost use Rattle.lat_language.specs.Grammar.{Spells};
 ghost use Rattle.lat_session.specs.Outcomes.{Operations, operations_of};
 ghost use Rattle.lattice_run.specs.declared.tasks.Output.{Output};
@@ -175,7 +174,7 @@ fn run_audit<S: Source, K: Sink>(alloc: Global, source: &mut S, sink: &mut K) ->
         (stream (S.left source.new) (S.faults source.new))
         (stream (K.held sink.old) (K.faults sink.old))
         (stream (K.held sink.new) (K.faults sink.new)) result }
-    ensures taken { TakesAtMost (S.left source.old) (S.left source.new) (MAX_DUMP + 1) }
+    ensures taken { TakesInput (limit (Some Audit)) (S.left source.old) (S.left source.new) }
 {
     match read_all(alloc, source, MAX_DUMP) {
         Ok(input) => answer_verdict(sink, &audit(alloc, &input)),
