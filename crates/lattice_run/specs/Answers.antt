@@ -11,7 +11,7 @@
 --     rest_of most input          what is left of an input that is read up to a limit
 --     IsInput most input old new  what a source gave of its bytes, from `old` to `new`
 --     TakesInput most old new     how much is taken at most, whatever the status
-use Rattle.std.specs.Prelude.{◌≡◌, Bool, true, false, ℕ, ◌+◌, ◌<◌, ◌≤◌, List, length, drop, Option, Some, None, IfSome}
+use Rattle.std.specs.Prelude.{◌≡◌, Bool, true, false, ℕ, ◌+◌, ◌<◌, ◌≤◌, List, length, drop, Option, Some, None, IfSome, ⊤}
 use Rattle.alg_model.specs.Lattices as lattices
 use Rattle.alg_model.specs.Lattices.{Lattice, first_edition}
 use Rattle.lat_io.specs.Source.{TakesAtMost}
