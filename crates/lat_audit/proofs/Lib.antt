@@ -10,3 +10,5 @@ pub mod RuleMaps
 pub mod RuleOrders
 pub mod RuleDegrees
 pub mod RuleFaults
+pub mod SomeVerdict
+pub mod OneVerdict

@@ -109,8 +109,8 @@ pub fault_output : (threads : Bool) (operations : Operations) (asked : Option Ta
     (input text : List ℕ) (verdict : AuditVerdict) → asked ≡ Some Audit → Judges input verdict
     → IsFault verdict → asked ≡ Some task → IsOutput threads operations task input text → ⊥
 fault_output threads operations asked task input text verdict e judges f is o =
-    let (L, good) = audited_output threads operations asked task input text e is o in
-    let same = one_verdict input verdict (Good L) (fault_given verdict f) (λ g. cc) judges good in subst IsFault same f
+    let (L, of) = audited_output threads operations asked task input text e is o in
+    let same = one_verdict input verdict (Good L) (fault_given verdict f) (λ g. cc) judges of in subst IsFault same f
 
 same_fault : (input : List ℕ) (verdict other : AuditVerdict) → Judges input verdict → Judges input other
     → IsFault verdict → IsFault other → verdict_text verdict ≡ verdict_text other
