@@ -34,3 +34,5 @@ pub mod KeptImages
 pub mod KeptContents
 pub mod SomeVerdict
 pub mod DumpedContents
+pub mod SomeVerdict
+pub mod OneVerdict

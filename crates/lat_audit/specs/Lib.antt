@@ -8,4 +8,5 @@ pub mod PrivateRules
 pub mod PrivateTables
 pub mod Readings
 pub mod Theorems
+pub mod VerdictTexts
 pub mod Verdicts
