@@ -34,5 +34,3 @@ pub mod KeptImages
 pub mod KeptContents
 pub mod SomeVerdict
 pub mod DumpedContents
-pub mod SomeVerdict
-pub mod OneVerdict

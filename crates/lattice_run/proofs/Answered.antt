@@ -29,8 +29,8 @@ use Rattle.lat_audit.specs.VerdictTexts.{verdict_text, dump_too_long_text}
 use Rattle.lat_audit.specs.declared.verdict_lines.TheConstants.{MAX_DUMP}
 use Rattle.lat_audit.specs.declared.verdicts.AuditVerdict.{AuditVerdict}
 use Rattle.lat_audit.specs.declared.verdicts.AuditVerdict.TheVariants.{Good, NoMemory}
-use Rattle.lat_audit.proofs.SomeVerdict.{some_verdict}
-use Rattle.lat_audit.proofs.OneVerdict.{one_verdict}
+use Rattle.lat_audit.proofs.SomeVerdict.{verdict_exists}
+use Rattle.lat_audit.proofs.OneVerdict.{text_has_one_verdict}
 use Rattle.lattice_run.specs.Answers.{IsShared, IsPlayed, IsOutput, Answers}
 use Rattle.lattice_run.specs.Answers.Answers.{usage, too_long, bad_line, dump_too_long, bad_dump, output}
 use Rattle.lattice_run.specs.Theorems.{InputHasAnswer, InputHasOneAnswer}
@@ -63,7 +63,7 @@ module _ (operations : Operations) (keeps : KeepsValues operations) where
       one_played wanted script text other (spelled_playable input script s) t
       (subst (λ (x : Script). IsPlayed false operations wanted x other) same t')
   one_output Audit input text other proper (L, j, t) (M, k, u) =
-      t ∙ ap verdict_text (one_verdict input (Good L) (Good M) (λ e. cc) (λ e. cc) j k) ∙ sym u
+      t ∙ ap verdict_text (text_has_one_verdict input (Good L) (Good M) (λ e. cc) (λ e. cc) j k) ∙ sym u
   one_output (Gen s f m) input text other proper a b =
       one_summary operations (generated s f m) keeps (generated_playable s f m proper.1) text other a b
 
@@ -132,7 +132,7 @@ module _ (threads : Bool) (operations : Operations) (keeps : KeepsValues operati
   ]
   some (Some Audit) asks = elim (cases_lt MAX_DUMP (length input)) [
     | inl l ↦ (BAD_SCRIPT, dump_too_long_text MAX_DUMP, dump_too_long refl l)
-    | inr h ↦ let (verdict, given, judges) = some_verdict input in judged_answer verdict h given judges
+    | inr h ↦ let (verdict, given, judges) = verdict_exists input in judged_answer verdict h given judges
   ]
   some (Some (Gen s f m)) asks =
       let f' = some_final operations (generated s f m) keeps (generated_playable s f m asks.1.1) in

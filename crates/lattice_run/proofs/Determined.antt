@@ -11,7 +11,7 @@ use Rattle.lat_audit.specs.VerdictTexts.{verdict_text}
 use Rattle.lat_audit.specs.declared.verdict_lines.TheConstants.{MAX_DUMP}
 use Rattle.lat_audit.specs.declared.verdicts.AuditVerdict.{AuditVerdict}
 use Rattle.lat_audit.specs.declared.verdicts.AuditVerdict.TheVariants.{Good, BadText, BadField, BadMap, BadRule, NoMemory}
-use Rattle.lat_audit.proofs.OneVerdict.{one_verdict}
+use Rattle.lat_audit.proofs.OneVerdict.{text_has_one_verdict}
 use Rattle.lat_session.specs.Outcomes.{Operations}
 use Rattle.lattice_run.specs.declared.run.TheConstants.{MAX_INPUT}
 use Rattle.lattice_run.specs.declared.tasks.Task.{Task}
@@ -110,12 +110,12 @@ pub fault_output : (threads : Bool) (operations : Operations) (asked : Option Ta
     → IsFault verdict → asked ≡ Some task → IsOutput threads operations task input text → ⊥
 fault_output threads operations asked task input text verdict e judges f is o =
     let (L, of) = audited_output threads operations asked task input text e is o in
-    let same = one_verdict input verdict (Good L) (fault_given verdict f) (λ g. cc) judges of in subst IsFault same f
+    let same = text_has_one_verdict input verdict (Good L) (fault_given verdict f) (λ g. cc) judges of in subst IsFault same f
 
 same_fault : (input : List ℕ) (verdict other : AuditVerdict) → Judges input verdict → Judges input other
     → IsFault verdict → IsFault other → verdict_text verdict ≡ verdict_text other
 same_fault input verdict other a b f g =
-    ap verdict_text (one_verdict input verdict other (fault_given verdict f) (fault_given other g) a b)
+    ap verdict_text (text_has_one_verdict input verdict other (fault_given verdict f) (fault_given other g) a b)
 
 -- **two answers to what is asked for and to an input are one, or both are outputs of one task**,
 -- with threads and without
