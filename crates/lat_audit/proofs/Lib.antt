@@ -18,3 +18,4 @@ pub mod ContentRows
 pub mod LineFeeds
 pub mod WrittenContents
 pub mod DumpedContents
+pub mod ReadContents
