@@ -19,3 +19,10 @@ pub mod LineFeeds
 pub mod WrittenContents
 pub mod DumpedContents
 pub mod ReadContents
+pub mod FiniteSearches
+pub mod LineDecisions
+pub mod SomeReading
+pub mod SomeFaults
+pub mod SomeRules
+pub mod HeldMaps
+pub mod SomeVerdict

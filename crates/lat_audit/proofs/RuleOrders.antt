@@ -32,7 +32,7 @@ first_pair n {P = P} {Good = Good} i j apart within here earlier before = (
 )
 
 -- a triple before another one is so at the first number, at the second or at the third
-triple_before : (s t : Triple) → triple_cmp s t ≡ Less
+pub triple_before : (s t : Triple) → triple_cmp s t ≡ Less
     → (s.0 < t.0) ⊎ ((s.0 ≡ t.0) × (pair_cmp (s.1, s.2) (t.1, t.2) ≡ Less))
 triple_before s t e = by_first (nat_cmp s.0 t.0) refl
   where
