@@ -26,3 +26,4 @@ pub mod SomeFaults
 pub mod SomeRules
 pub mod HeldMaps
 pub mod SomeVerdict
+pub mod KeptRules
