@@ -26,4 +26,6 @@ pub mod SomeFaults
 pub mod SomeRules
 pub mod HeldMaps
 pub mod SomeVerdict
+pub mod ContentFields
+pub mod FirstRows
 pub mod KeptRules

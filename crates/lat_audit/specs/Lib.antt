@@ -5,6 +5,7 @@ pub mod PrivateFaults
 pub mod PrivateReadings
 pub mod PrivateRules
 pub mod PrivateTables
+pub mod PrivateVerdicts
 pub mod Readings
 pub mod Theorems
 pub mod Verdicts
