@@ -29,3 +29,5 @@ pub mod SomeVerdict
 pub mod ContentFields
 pub mod FirstRows
 pub mod KeptRules
+pub mod RisingEntries
+pub mod ContentLattices
