@@ -31,3 +31,4 @@ pub mod FirstRows
 pub mod KeptRules
 pub mod RisingEntries
 pub mod ContentLattices
+pub mod TextVerdicts
