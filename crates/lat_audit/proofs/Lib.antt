@@ -22,6 +22,7 @@ pub mod OneVerdict
 pub mod ContentRows
 pub mod LineFeeds
 pub mod WrittenContents
+pub mod DumpedContents
 pub mod ReadContents
 pub mod FiniteSearches
 pub mod LineDecisions
@@ -33,4 +34,9 @@ pub mod KeptRows
 pub mod KeptImages
 pub mod KeptContents
 pub mod SomeVerdict
-pub mod DumpedContents
+pub mod ContentFields
+pub mod FirstRows
+pub mod KeptRules
+pub mod RisingEntries
+pub mod ContentLattices
+pub mod TextVerdicts

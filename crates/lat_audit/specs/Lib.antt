@@ -6,6 +6,7 @@ pub mod PrivateLeaders
 pub mod PrivateReadings
 pub mod PrivateRules
 pub mod PrivateTables
+pub mod PrivateVerdicts
 pub mod Readings
 pub mod Theorems
 pub mod VerdictTexts

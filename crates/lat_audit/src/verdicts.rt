@@ -1,8 +1,14 @@
 //! The verdict on a text.
 
-ghost use Rattle.std.specs.Prelude.{◌≡◌, ◌<◌, length};
+ghost use Rattle.std.specs.Prelude.{◌≡◌, ◌<◌, length, IfErr, MatchResult};
+ghost use Rattle.alg_model.specs.Lattices.{IsCompatible};
+ghost use Rattle.lat_audit.specs.declared.faults.Fault.TheVariants.{NoMemory as memory_fault};
 ghost use Rattle.lat_audit.specs.declared.verdicts.AuditVerdict.TheVariants.{NoMemory as no_memory};
-ghost use Rattle.lat_audit.specs.Verdicts.{Judges};
+ghost use Rattle.lat_audit.specs.Dumps.{dump_text};
+ghost use Rattle.lat_audit.specs.Readings as readings;
+ghost use Rattle.lat_audit.specs.Verdicts.{None, IsReducible, IsWrongImage, IsDumped, Judges};
+ghost use Rattle.lat_audit.specs.PrivateContents.{IsContent};
+ghost use Rattle.lat_audit.specs.PrivateVerdicts.{verdict_with, ContentFault, TextFault};
 
 use crate::contents::Content;
 use crate::faults::Fault;
@@ -41,7 +47,9 @@ pub enum AuditVerdict {
 }
 
 // The fault as a verdict.
-fn verdict_of(fault: Fault) -> AuditVerdict {
+fn verdict_of(fault: Fault) -> AuditVerdict
+    ensures { result ≡ verdict_with fault }
+{
     match fault {
         Fault::Text(line) => AuditVerdict::BadText(line),
         Fault::Field(i) => AuditVerdict::BadField(i),
@@ -52,7 +60,12 @@ fn verdict_of(fault: Fault) -> AuditVerdict {
 }
 
 // The compatible lattice of what a dump holds, or its first fault.
-fn lattice_of(alloc: Global, content: &Content) -> Result<Lattice, Fault> {
+fn lattice_of(alloc: Global, content: &Content) -> Result<Lattice, Fault>
+    requires { IsContent (record { rows = content.now.rows.items; images = content.now.images.items }) }
+    ensures { let c : readings.Content = record { rows = content.now.rows.items; images = content.now.images.items } in
+        MatchResult result (λ L. (L ≡ readings.lattice_of c) × IsCompatible L
+        × None (IsReducible c.rows) × None (IsWrongImage c)) (ContentFault c) }
+{
     let fields = judge_fields(alloc, content.rows.as_slice())?;
     let maps = judge_maps(alloc, fields.as_slice(), content.images.as_slice())?;
     let table = Table::new(alloc, fields, maps)?;
@@ -61,7 +74,11 @@ fn lattice_of(alloc: Global, content: &Content) -> Result<Lattice, Fault> {
 }
 
 // The compatible lattice whose dump the text is, or its first fault.
-fn judge_text(alloc: Global, text: &[u8]) -> Result<Lattice, Fault> {
+fn judge_text(alloc: Global, text: &[u8]) -> Result<Lattice, Fault>
+    ensures verdict { MatchResult result
+        (λ L. IsDumped L × (text.now ≡ dump_text L)) (TextFault text.now) }
+    ensures some { IfErr result (λ fault. fault ≡ memory_fault → 0 < length text.now) }
+{
     let content = read(alloc, text)?;
     lattice_of(alloc, &content)
 }
