@@ -1,5 +1,5 @@
 -- The first fault of a text is its verdict.
-use Rattle.std.proofs.Common.{◌≡◌, ℕ, List, refl}
+use Rattle.std.proofs.Common.{◌≡◌, ℕ, List, [], refl, inr}
 use Rattle.lat_audit.specs.Readings.{Content, Header, IsDump, lattice_of}
 use Rattle.lat_audit.specs.Verdicts.{None, IsReducible, IsWrongImage, HoldsEmbeddings, Judges}
 use Rattle.lat_audit.specs.Verdicts.Judges.{bad_text, bad_field as judged_field, bad_map as judged_map, identity, prime_subfield, inverse, transitivity, intersection, no_memory}
@@ -77,3 +77,7 @@ memory_fault (fault.Field i) e = cc
 memory_fault (fault.Map i j) e = cc
 memory_fault (fault.Rule r i j k) e = cc
 memory_fault fault.NoMemory e = refl
+
+-- a text without bytes lacks its first line
+pub empty_stops : Stops Header 1 [] (fault.Text 1)
+empty_stops = inr (λ c e. cc, refl)

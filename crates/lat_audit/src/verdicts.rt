@@ -73,12 +73,15 @@ fn lattice_of(alloc: Global, content: &Content) -> Result<Lattice, Fault>
     Ok(table.into_lattice(alloc)?)
 }
 
-// The compatible lattice whose dump the text is, or its first fault.
+// The compatible lattice whose dump the text is, or its first fault. An empty text is told before any memory is taken.
 fn judge_text(alloc: Global, text: &[u8]) -> Result<Lattice, Fault>
     ensures verdict { MatchResult result
         (λ L. IsDumped L × (text.now ≡ dump_text L)) (TextFault text.now) }
     ensures some { IfErr result (λ fault. fault ≡ memory_fault → 0 < length text.now) }
 {
+    if text.is_empty() {
+        return Err(Fault::Text(1));
+    }
     let content = read(alloc, text)?;
     lattice_of(alloc, &content)
 }
