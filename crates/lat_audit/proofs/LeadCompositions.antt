@@ -1,6 +1,6 @@
 -- Compositions are told by leaders.
-use Rattle.std.proofs.Common.{◌≡◌, ℕ, ◌<◌, List, length, sym, refl, ap, ◌∙◌, subst}
-use Rattle.alg_model.specs.Maps.{Field, IsFiniteField, field_values, degree_of, apply, comp, identity_map, IsEmbedding}
+use Rattle.std.proofs.Common.{◌≡◌, ℕ, ◌<◌, List, length, sym, ap, ◌∙◌, subst}
+use Rattle.alg_model.specs.Maps.{Field, IsFiniteField, field_values, apply, comp, identity_map, IsEmbedding}
 use Rattle.alg_model.specs.Lattices.{Lattice, Stored, field_at}
 use Rattle.alg_galois.proofs.Embeddings.{apply_identity, apply_comp, apply_valid, comp_embedding, embeddings_equal}
 use Rattle.lat_audit.specs.Verdicts.{HasInverse}

@@ -1,11 +1,10 @@
 -- Leaders of fields, one field after the other.
-use Rattle.std.proofs.Common.{◌≡◌, ℕ, ◌+◌, ◌<◌, Option, None, List, [], ◌∷◌, ◌++◌, length, sym, refl, ap, ◌∙◌, subst, inl, inr, ⊎_elim, arith, length-append}
-use Rattle.std.specs.Prelude.{◌⊎◌, slice_index_or}
+use Rattle.std.proofs.Common.{◌≡◌, ℕ, ◌+◌, ◌<◌, None, List, [], ◌∷◌, ◌++◌, length, sym, refl, ap, ◌∙◌, subst, ⊎_elim, arith, length-append}
 use Rattle.std.specs.FinMap.{get}
 use Rattle.std.proofs.lemmas.Bool.{cases_lt}
 use Rattle.std.proofs.lemmas.List.{get_or_push, get_or_append_left}
 use Rattle.alg_model.specs.Maps.{identity_map}
-use Rattle.alg_model.specs.Lattices.{Lattice, Stored, field_at}
+use Rattle.alg_model.specs.Lattices.{Lattice, field_at}
 use Rattle.lat_audit.specs.PrivateRules.{HasIdentity, KeepsComposition}
 use Rattle.lat_audit.specs.PrivateLeaders.{leader, IsIsomorphic, IsLed, AreLed, Heads}
 use Rattle.lat_audit.proofs.RuleMaps.{none_stored}

@@ -1,5 +1,5 @@
 -- Lines that end in their only line feed, and texts that are joined of lines.
-use Rattle.std.proofs.Common.{◌≡◌, Bool, true, false, ℕ, ◌+◌, ◌<◌, ◌^◌, List, [], ◌∷◌, ◌++◌, length, sym, refl, ap, ◌∙◌, subst, inl, inr, arith, eqb, cond, decimal, map, append_assoc}
+use Rattle.std.proofs.Common.{◌≡◌, Bool, true, false, ℕ, ◌<◌, ◌^◌, List, [], ◌∷◌, ◌++◌, length, sym, refl, ap, ◌∙◌, subst, inl, inr, arith, eqb, cond, decimal, map, append_assoc}
 use Rattle.std.specs.Prelude.{◌≢◌, ◌==◌, All, codes, slice_index}
 use Rattle.std.specs.List.{onto_first, join_with_byte, concat}
 use Rattle.std.specs.Str.Parse.{AllDigits}

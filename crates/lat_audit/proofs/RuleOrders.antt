@@ -1,18 +1,17 @@
 -- The first fields at which a rule is broken.
-use Rattle.std.proofs.Common.{◌≡◌, true, false, Bool, ℕ, ◌+◌, ◌<◌, ◌≤◌, Option, Some, None, List, length, sym, refl, ap, ◌∙◌, subst, inl, inr, ⊎_elim, arith, nat_cmp, Ordering, Less, Equal, Greater}
-use Rattle.std.specs.Prelude.{◌⊎◌, ◌≢◌, Contains, AllPairs, slice_index, slice_index_or}
+use Rattle.std.proofs.Common.{◌≡◌, true, false, Bool, ℕ, ◌+◌, ◌<◌, None, length, sym, refl, ap, ◌∙◌, subst, inl, inr, ⊎_elim, arith, nat_cmp, Ordering, Less, Equal, Greater}
+use Rattle.std.specs.Prelude.{◌⊎◌, slice_index}
 use Rattle.std.specs.Bool.{MatchBool}
 use Rattle.std.specs.Cmp.{ranked}
 use Rattle.std.specs.Ordering.{ordering_then}
 use Rattle.std.specs.FinMap.{get}
 use Rattle.std.proofs.lemmas.Bool.{cases_lt, cases_eq}
-use Rattle.alg_model.specs.Maps.{Field, degree_of, comp}
-use Rattle.alg_model.specs.Lattices.{first_edition, Lattice, Stored, field_at, pair_cmp}
+use Rattle.alg_model.specs.Lattices.{first_edition, Lattice, Stored, pair_cmp}
 use Rattle.alg_compatible.proofs.Editions.{first_is_edition}
-use Rattle.lat_audit.specs.Verdicts.{IsFirst, Triple, triple_cmp, IsPrimeField, LacksPrimeSubfield, LacksInverse, LacksComposition, HasInverse}
-use Rattle.lat_audit.specs.PrivateRules.{HasPrimeSubfield, IsOfEdition, KeepsInverse, KeepsComposition, BreaksInverse, BreaksComposition}
+use Rattle.lat_audit.specs.Verdicts.{IsFirst, Triple, triple_cmp, IsPrimeField, LacksPrimeSubfield, LacksInverse, LacksComposition}
+use Rattle.lat_audit.specs.PrivateRules.{HasPrimeSubfield, IsOfEdition, KeepsInverse, KeepsComposition}
 use Rattle.lat_audit.proofs.StoredMaps.{pair_before}
-use Rattle.lat_audit.proofs.RuleMaps.{stored_once, none_stored}
+use Rattle.lat_audit.proofs.RuleMaps.{none_stored}
 
 -- ---- numbers, pairs and triples
 pub first_number : {P : ℕ → Type 0} {Good : ℕ → Type 0} (i : ℕ) → ((b : ℕ) → Good b → P b → ⊥)

@@ -1,5 +1,5 @@
 -- One more field, and all of them.
-use Rattle.std.proofs.Common.{rules, ◌≡◌, ℕ, ◌<◌, List, length, IsTrue, sym, subst, arith}
+use Rattle.std.proofs.Common.{rules, ◌≡◌, ℕ, ◌<◌, List, length, IsTrue, subst, arith}
 use Rattle.lat_audit.specs.PrivateRules.{KeepsComposition}
 use Rattle.lat_audit.specs.PrivateLeaders.{KeepsToLeaders, leader}
 use Rattle.lat_audit.proofs.RuleOrders.{one_more}

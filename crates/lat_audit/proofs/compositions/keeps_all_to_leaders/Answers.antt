@@ -1,5 +1,5 @@
 -- One more field.
-use Rattle.std.proofs.Common.{rules, ℕ, IsTrue}
+use Rattle.std.proofs.Common.{rules, IsTrue}
 use Rattle.lat_audit.specs.PrivateLeaders.{KeepsToLeaders}
 use Rattle.lat_audit.proofs.RuleOrders.{one_more}
 use Rattle.lat_audit.proofs.compositions.keeps_all_to_leaders.Goals as goal

@@ -1,5 +1,5 @@
 -- The first three fields.
-use Rattle.std.proofs.Common.{ℕ, ◌<◌, length}
+use Rattle.std.proofs.Common.{length}
 use Rattle.lat_audit.specs.Verdicts.{LacksComposition}
 use Rattle.lat_audit.specs.PrivateRules.{KeepsComposition}
 use Rattle.lat_audit.proofs.RuleOrders.{first_triple, composition_kept}

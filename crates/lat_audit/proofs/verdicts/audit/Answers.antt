@@ -1,6 +1,5 @@
 -- A lattice is good, and the first fault is the verdict.
-use Rattle.std.proofs.Common.{◌≡◌, sym, subst}
-use Rattle.lat_audit.specs.declared.verdicts.AuditVerdict.{AuditVerdict}
+use Rattle.std.proofs.Common.{sym, subst}
 use Rattle.lat_audit.specs.Verdicts.{Judges}
 use Rattle.lat_audit.specs.Verdicts.Judges.{good}
 use Rattle.lat_audit.proofs.TextVerdicts.{fault_judges}

@@ -1,5 +1,5 @@
 -- What was read is what the text holds.
-use Rattle.std.proofs.Common.{rules, ◌≡◌, ◌<◌, ℕ, List, [], ◌∷◌, length, refl, sym, subst, ◌∙◌, arith}
+use Rattle.std.proofs.Common.{rules, ◌≡◌, ℕ, List, [], ◌∷◌, length, refl, sym, subst, ◌∙◌, arith}
 use Rattle.std.specs.Prelude.{Result, Ok, Err, MatchResult}
 use Rattle.alg_model.specs.Lattices.{Lattice, IsCompatible}
 use Rattle.lat_audit.specs.declared.faults.Fault.{Fault}
@@ -45,7 +45,7 @@ returns-clause-verdict c =
     let held : Content = record { rows = c.in_ok-content.content.rows.items; images = c.in_ok-content.content.images.items } in
     let dump : IsDump c.args.text.now held = c.in_ok-content.ensures in
     let good : (L : Lattice) → L ≡ lattice_of held → IsCompatible L → None (IsReducible held.rows)
-        → None (IsWrongImage held) → IsDumped L × (c.args.text.now ≡ dump_text L) = judged c.args.text.now held dump in
+    → None (IsWrongImage held) → IsDumped L × (c.args.text.now ≡ dump_text L) = judged c.args.text.now held dump in
     let bad : (f : Fault) → ContentFault held f → TextFault c.args.text.now f = λ f h. bad_content held dump h in
     matched c.lattice_of.result
     (λ L. (L ≡ lattice_of held) × IsCompatible L × None (IsReducible held.rows) × None (IsWrongImage held))

@@ -6,7 +6,7 @@ use Rattle.lat_core.specs.declared.rows.MapRow.{MapRow}
 use Rattle.lat_audit.specs.declared.faults.Fault.{Fault}
 use Rattle.lat_audit.specs.declared.faults.Fault.TheVariants.{NoMemory as memory_fault}
 use Rattle.lat_audit.specs.Readings.{Image, Content, lattice_of}
-use Rattle.lat_audit.specs.Verdicts.{None, IsReducible, IsWrongImage}
+use Rattle.lat_audit.specs.Verdicts.{None, IsReducible}
 use Rattle.lat_audit.specs.PrivateContents.{IsContent}
 use Rattle.lat_audit.specs.PrivateFaults.{IsImage, FieldFault, MapFault, AreMapsOf}
 use Rattle.lat_audit.specs.PrivateReadings.{IsRising}
@@ -95,7 +95,6 @@ returns-in_err-table c =
     let held : Content = record { rows = c.args.content.now.rows.items; images = c.args.content.now.images.items } in
     let fault : ContentFault held memory_fault = bad_field tt in
     search rules
-
 
 pub judge_rules-requires-clause-edition : goal.judge_rules-requires-clause-edition
 judge_rules-requires-clause-edition c =
