@@ -31,4 +31,5 @@ pub mod FirstRows
 pub mod KeptRules
 pub mod RisingEntries
 pub mod ContentLattices
+pub mod TextLattices
 pub mod TextVerdicts
