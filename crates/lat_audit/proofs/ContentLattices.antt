@@ -1,12 +1,11 @@
 -- The lattice of a content: what the maps of its images give to a table, and the dump of the
 -- lattice, which is the text of the content.
-use Rattle.std.proofs.Common.{◌≡◌, ℕ, ◌+◌, ◌*◌, ◌<◌, ◌≤◌, List, [], ◌∷◌, ◌++◌, length, get_or, map, refl, sym, ap, ap₂, ◌∙◌, subst, arith, suc}
+use Rattle.std.proofs.Common.{◌≡◌, ℕ, ◌*◌, ◌<◌, ◌≤◌, List, [], ◌∷◌, ◌++◌, length, get_or, map, refl, sym, ap, ap₂, ◌∙◌, subst, arith, suc}
 use Rattle.std.specs.Prelude.{All, AllPairs}
 use Rattle.std.specs.FinMap.{len, entries, from_entries, len-entries}
 use Rattle.std.proofs.lemmas.List.{get_or-map, length-map}
 use Rattle.std.proofs.lemmas.List.Elements.{All-contains, Contains-get_or}
-use Rattle.std.proofs.lemmas.List.Folds.{flat_map-map}
-use Rattle.alg_model.specs.Lattices.{first_edition, Lattice, IsCompatible}
+use Rattle.alg_model.specs.Lattices.{first_edition, IsCompatible}
 use Rattle.alg_compatible.proofs.Tables.{pair_total, pair_antisymmetric}
 use Rattle.lat_core.specs.declared.rows.MapRow.{MapRow}
 use Rattle.lat_core.specs.declared.TheConstants.{MAX_FIELDS}

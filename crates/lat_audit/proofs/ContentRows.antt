@@ -1,16 +1,20 @@
 -- What a content may hold: rows and images, each of which may stand behind those before it.
-use Rattle.std.proofs.Common.{◌≡◌, ℕ, ◌+◌, ◌<◌, ◌≤◌, List, [], ◌∷◌, ◌++◌, length, sym, refl, ap, ◌∙◌, subst, arith, append_assoc}
+use Rattle.std.proofs.Common.{◌≡◌, ◌≤◌, List, [], ◌∷◌, ◌++◌, length, sym, refl, ap, ◌∙◌, subst, append_assoc}
 use Rattle.std.specs.Prelude.{All}
 use Rattle.std.proofs.lemmas.List.{append-nil}
 use Rattle.std.proofs.lemmas.List.Elements.{All-cons, All-nil}
 use Rattle.alg_model.specs.Lattices.{first_edition, Row}
-use Rattle.lat_audit.specs.Readings.{Image, Content, IsNextRow, IsNextImage}
+use Rattle.lat_audit.specs.Readings.{Content, IsNextRow, IsNextImage}
 use Rattle.lat_audit.specs.PrivateContents.{IsContent}
 use Rattle.lat_audit.specs.PrivateReadings.{IsFieldPoly}
 use Rattle.lat_audit.specs.declared.line_forms.TheConstants.{MAX_MAPS}
 use Rattle.lat_audit.proofs.ReadRows.{next_poly}
 
 -- ---- elements that follow one another
+pub pushed : {X : Type 0} (before : List X) (x : X) (xs : List X)
+    → (before ++ x ∷ []) ++ xs ≡ before ++ x ∷ xs
+pushed before x xs = append_assoc before (x ∷ []) xs
+
 module _ {X : Type 0} (Next : List X → X → Type 0) where
   -- each of them may stand behind those before it, and behind `before`
   abbrev pub Follow : List X → List X → Type 0
@@ -54,10 +58,12 @@ follow_polys before (row ∷ rows) h =
 -- ---- contents
 module _ (c : Content) where
   pub rows_follow : IsContent c → Follow IsNextRow [] c.rows
-  rows_follow is = each_follows IsNextRow [] c.rows (λ front behind row e. is.rows front behind row e)
+  rows_follow is = each_follows IsNextRow [] c.rows
+      (λ front behind row e. is.rows front behind row e)
 
   pub images_follow : IsContent c → Follow (IsNextImage c.rows) [] c.images
-  images_follow is = each_follows (IsNextImage c.rows) [] c.images (λ front behind e same. is.images front behind e same)
+  images_follow is = each_follows (IsNextImage c.rows) [] c.images
+      (λ front behind e same. is.images front behind e same)
 
   pub follow_content : length first_edition.primes ≤ length c.rows
       → length c.rows ≤ first_edition.room → length c.images ≤ MAX_MAPS

@@ -2,7 +2,7 @@
 -- it, is that of an embedding, and gives its map back.
 --     image_of rows e     the pair of an entry, and the image of the generator
 --     IsMapEntry rows e     an embedding between two of the fields
-use Rattle.std.proofs.Common.{◌≡◌, ℕ, suc, ◌+◌, ◌<◌, ◌≤◌, List, [], ◌∷◌, ◌++◌, length, get_or, map, refl, sym, ap, ap₂, ◌∙◌, subst, arith}
+use Rattle.std.proofs.Common.{◌≡◌, ℕ, suc, ◌<◌, ◌≤◌, List, [], ◌∷◌, ◌++◌, length, get_or, map, refl, sym, ap, ap₂, ◌∙◌, subst, arith}
 use Rattle.std.specs.Prelude.{All, AllPairs}
 use Rattle.std.specs.FinMap.{entries, from_entries}
 use Rattle.std.proofs.lemmas.List.{get_or-map, length-map}

@@ -1,15 +1,15 @@
 -- The rows of a content whose polynomials are irreducible are those of a lattice of the first
 -- edition.
-use Rattle.std.proofs.Common.{◌≡◌, ◌≢◌, ℕ, ◌+◌, ◌^◌, min, ◌<◌, ◌≤◌, List, [], ◌∷◌, length, get_or, take, map, decimal, refl, sym, ap, ◌∙◌, subst, inl, inr, ⊎_elim, arith, length-take, get_or-take}
+use Rattle.std.proofs.Common.{◌≡◌, ◌≢◌, ℕ, ◌^◌, ◌<◌, ◌≤◌, List, [], ◌∷◌, length, get_or, take, map, decimal, sym, ap, ◌∙◌, subst, inl, inr, ⊎_elim, arith, get_or-take}
 use Rattle.std.specs.Prelude.{◌⊎◌, All, slice_index, slice_index_or}
 use Rattle.std.proofs.lemmas.Fmt.{decimal_injective}
 use Rattle.std.proofs.lemmas.List.{ext_get_or, get_or_default, get_or-map, length-map, length-take-le}
 use Rattle.alg_model.specs.Maps.{IsFiniteField, degree_of}
-use Rattle.alg_model.specs.Lattices.{first_edition, Row, IsRow, IsRows, IsEdition, prime_row, made_name, no_row, field_at}
+use Rattle.alg_model.specs.Lattices.{first_edition, Row, IsRows, IsEdition, prime_row, made_name, no_row, field_at}
 use Rattle.alg_compatible.proofs.Beginnings.{opening_exists}
 use Rattle.alg_compatible.proofs.Editions.{first_is_edition, opening_rows}
 use Rattle.lat_core.specs.Names.{IsDeclaredName, IsFieldName}
-use Rattle.lat_audit.specs.Readings.{Content, IsNewName, IsNextRow}
+use Rattle.lat_audit.specs.Readings.{Content, IsNewName}
 use Rattle.lat_audit.specs.PrivateContents.{IsContent}
 use Rattle.lat_audit.proofs.ReadRows.{prime_declared, characteristic_small}
 use Rattle.lat_audit.proofs.ContentFields.{next_row, are_polys}
@@ -117,7 +117,7 @@ module _ (c : Content) (is : IsContent c) where
       (λ new. ⊎_elim
       (λ (declared, free).
       free i no_row (let at = before j m in omega (arith, at, l))
-          (ap (λ (r : Row). r.name) (get_or-take j c.rows i no_row l) ∙ same))
+      (ap (λ (r : Row). r.name) (get_or-take j c.rows i no_row l) ∙ same))
       (λ made. from_made (made ∙ ap made_name (before j m)))
       new.name)
       (which j m)

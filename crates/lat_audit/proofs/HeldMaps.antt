@@ -1,7 +1,7 @@
 -- The lattice of a content whose polynomials are irreducible and whose images are those of
 -- embeddings holds embeddings of finite fields.
-use Rattle.std.proofs.Common.{◌≡◌, true, false, ℕ, zero, suc, ◌+◌, ◌<◌, ◌≤◌, cond, Option, Some, None, List, [], ◌∷◌, length, map, sym, refl, ap, ◌∙◌, subst, inl, inr, ⊎_elim, arith}
-use Rattle.std.specs.Prelude.{◌⊎◌, All, Contains}
+use Rattle.std.proofs.Common.{◌≡◌, ℕ, suc, ◌<◌, cond, Some, List, [], ◌∷◌, length, map, sym, ap, ◌∙◌, subst, ⊎_elim, arith}
+use Rattle.std.specs.Prelude.{Contains}
 use Rattle.std.specs.Ordering.{eq_by_cmp}
 use Rattle.std.specs.FinMap.{get-from_entries, find}
 use Rattle.std.proofs.lemmas.Bool.{cases_Bool}
@@ -14,7 +14,7 @@ use Rattle.alg_compatible.proofs.Tables.{pair_total}
 use Rattle.alg_compatible.proofs.Editions.{first_is_edition}
 use Rattle.lat_core.proofs.Decisions.{prime_of}
 use Rattle.lat_audit.specs.Readings.{Image, Content, map_of, lattice_of}
-use Rattle.lat_audit.specs.Verdicts.{None as Never, IsReducible, IsGeneratorImage, IsWrongImage}
+use Rattle.lat_audit.specs.Verdicts.{None as Never, IsReducible, IsWrongImage}
 use Rattle.lat_audit.specs.PrivateRules.{HoldsMaps}
 use Rattle.lat_audit.proofs.StoredMaps.{pair_tied}
 use Rattle.lat_audit.proofs.FiniteSearches.{holds_told}
@@ -36,8 +36,11 @@ found_image rows (x ∷ images) q m e = ⊎_elim
     let here : ◌≡◌ {A = Image} x (q, x.1) = λ i. ((sym same.0 i, sym same.1 i), x.1) in
     let first : Some (map_of rows x).1 ≡ Some m
     = sym (ap (λ b. cond b (Some (map_of rows x).1) (find pair_cmp q (map (map_of rows) images))) tied) ∙ e in
-    let own : m ≡ map_sending (field_at rows x.0.0) (field_at rows x.0.1) x.1 = cc in
-    (x.1, (0, omega arith, here), own ∙ ap (λ (y : Image). map_sending (field_at rows y.0.0) (field_at rows y.0.1) x.1) here))
+    let own : m ≡ map_sending (field_at rows x.0.0) (field_at rows x.0.1) x.1 = cc in (
+      x.1,
+      (0, omega arith, here),
+      own ∙ ap (λ (y : Image). map_sending (field_at rows y.0.0) (field_at rows y.0.1) x.1) here,
+    ))
     (λ apart.
     let (v, (k, l, is), own) = found_image rows images q m
     (sym (ap (λ b. cond b (Some (map_of rows x).1) (find pair_cmp q (map (map_of rows) images))) apart) ∙ e) in
@@ -63,8 +66,10 @@ module _ (c : Content) (polys : ArePolys c.rows) (within : AreWithin c.rows c.im
 
   -- an image is that of an embedding
   pub image_embeds : (i j : ℕ) (v : List ℕ) → Contains c.images ((i, j), v)
-      → IsEmbedding (field_at c.rows i) (field_at c.rows j) (map_sending (field_at c.rows i) (field_at c.rows j) v)
-      × (apply (field_at c.rows j) (map_sending (field_at c.rows i) (field_at c.rows j) v) (generator (field_at c.rows i)) ≡ v)
+      → IsEmbedding (field_at c.rows i) (field_at c.rows j)
+      (map_sending (field_at c.rows i) (field_at c.rows j) v)
+      × (apply (field_at c.rows j) (map_sending (field_at c.rows i) (field_at c.rows j) v)
+      (generator (field_at c.rows i)) ≡ v)
   image_embeds i j v there =
       let w = image_within i j v there in
       let root = holds_told (generator_image_told c.rows i j v) (λ fails. images (i, j) (v, there, fails)) in

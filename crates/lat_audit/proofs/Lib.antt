@@ -10,10 +10,15 @@ pub mod ReadRows
 pub mod ReadLines
 pub mod ReadMaps
 pub mod PairPlaces
+pub mod LeadFields
+pub mod LeadCompositions
 pub mod RuleMaps
 pub mod RuleOrders
 pub mod RuleDegrees
 pub mod RuleFaults
+pub mod OneReading
+pub mod CompatibleRules
+pub mod OneVerdict
 pub mod ContentRows
 pub mod LineFeeds
 pub mod WrittenContents
@@ -25,6 +30,9 @@ pub mod SomeReading
 pub mod SomeFaults
 pub mod SomeRules
 pub mod HeldMaps
+pub mod KeptRows
+pub mod KeptImages
+pub mod KeptContents
 pub mod SomeVerdict
 pub mod ContentFields
 pub mod FirstRows

@@ -1,25 +1,24 @@
 -- Whether a line is that of a field or of a map that may stand at its place.
 --     IsBehind word text rest     the text is the word, a space and the rest
-use Rattle.std.proofs.Common.{◌≡◌, ℕ, ◌<◌, ◌≤◌, ◌^◌, List, [], ◌∷◌, ◌++◌, length, sym, refl, ap, ◌∙◌, subst, inl, inr, ⊎_elim, arith, decimal}
+use Rattle.std.proofs.Common.{◌≡◌, ℕ, ◌<◌, ◌≤◌, List, [], ◌∷◌, ◌++◌, length, sym, refl, ap, ◌∙◌, subst, inl, inr, ⊎_elim, arith, decimal}
 use Rattle.std.specs.Prelude.{◌≢◌, ◌⊎◌, All, codes, slice_index}
 use Rattle.std.specs.List.{join_with_byte}
 use Rattle.std.specs.declared.cmp.Ordering.{Ordering}
 use Rattle.std.specs.declared.cmp.Ordering.TheVariants.{Less, Equal, Greater}
 use Rattle.std.proofs.lemmas.List.{append_cancel_right}
-use Rattle.std.proofs.lemmas.List.Elements.{All-get_or, All-cons, All-nil}
+use Rattle.std.proofs.lemmas.List.Elements.{All-cons, All-nil}
 use Rattle.std.proofs.lemmas.Bool.{cases_lt, cases_eq}
 use Rattle.std.proofs.lemmas.Fmt.{decimal_injective}
 use Rattle.alg_model.specs.Coefficients.{mod_ops}
 use Rattle.alg_model.specs.Polynomials.{leading}
 use Rattle.alg_model.specs.Values.{degree}
 use Rattle.alg_model.specs.Maps.{Field, field_values}
-use Rattle.alg_model.specs.Lattices.{first_edition, Row, prime_row, made_name, no_row, field_at, pair_cmp}
+use Rattle.alg_model.specs.Lattices.{first_edition, Row, prime_row, made_name, field_at, pair_cmp}
 use Rattle.lat_core.specs.Names.{IsDeclaredName}
 use Rattle.lat_core.specs.Digits.{AreDigits}
 use Rattle.lat_core.specs.Step.{IsWellFormed}
 use Rattle.lat_core.proofs.Decisions.{contains_or_not}
 use Rattle.lat_language.specs.Commands.{digits_text}
-use Rattle.lat_language.specs.CanonicalText.{line_of}
 use Rattle.lat_language.specs.PrivateDecisions.{Decided, same_text, decide_declared, decide_number, decide_digits}
 use Rattle.lat_language.specs.PrivateCoefficients.{digits_text_injective}
 use Rattle.lat_audit.specs.Dumps.{field_line, map_line}
@@ -163,7 +162,8 @@ tail_cut text c d cut = told_as
         → IsWellFormed first_edition p f → (p : ℕ) × ((c ≡ decimal p) × (p < 32)) × Formed d p
     back p f e w =
         let small = small_characteristic p f w in
-        let same = one_cut 32 c (decimal p) d (digits_text f) cut.1 (decimal_lacks p (omega (arith, small))) (sym cut.0 ∙ e) in
+        let lacks = decimal_lacks p (omega (arith, small)) in
+        let same = one_cut 32 c (decimal p) d (digits_text f) cut.1 lacks (sym cut.0 ∙ e) in
         (p, (same.0, small), (f, (same.1, poly_digits p f (formed_poly p f w)), w))
 
 tail_told : (text : List ℕ) → Decided (Tail text)
@@ -236,7 +236,7 @@ module _ (rows : List Row) where
           → (l : List ℕ) × (line ≡ ended l) × FieldWords l
       back row e new =
           let words = codes "field" ∷ decimal (length rows) ∷ row.name ∷ decimal row.field.characteristic
-              ∷ digits_text row.field.polynomial ∷ [] in
+          ∷ digits_text row.field.polynomial ∷ [] in
           let tail = decimal row.field.characteristic ++ 32 ∷ digits_text row.field.polynomial in (
             join_with_byte 32 words,
             e ∙ sym (line_from_words (join_with_byte 32 words) words refl),
@@ -273,9 +273,11 @@ row_told rows line = ⊎_elim
 
 -- ---- the line of a map
 module _ (rows : List Row) (images : List Image) (line : List ℕ)
-    (polys : (j : ℕ) → j < length rows → IsFieldPoly (field_at rows j).characteristic (field_at rows j).polynomial) where
+    (polys : (j : ℕ) → j < length rows
+    → IsFieldPoly (field_at rows j).characteristic (field_at rows j).polynomial) where
   abbrev Follows : ℕ → ℕ → List ℕ → Type 0
-  Follows i j v = (field_values (field_at rows j)).Valid v × All (λ earlier. pair_cmp earlier.0 (i, j) ≡ Less) images
+  Follows i j v = (field_values (field_at rows j)).Valid v
+      × All (λ earlier. pair_cmp earlier.0 (i, j) ≡ Less) images
 
   follows_told : (i j : ℕ) (v : List ℕ) → Decided (Follows i j v)
   follows_told i j v = both_told (value_told (field_at rows j) v)
@@ -301,7 +303,8 @@ module _ (rows : List Row) (images : List Image) (line : List ℕ)
       (λ (l, e, (a, f, (b, g, (c, h, (v, k, follows))))). (
         v,
         e ∙ line_from_words l (codes "map" ∷ decimal i ∷ decimal j ∷ digits_text v ∷ [])
-            (f ∙ ap (λ u. codes "map" ++ 32 ∷ u) (g ∙ ap (λ u. decimal i ++ 32 ∷ u) (h ∙ ap (λ u. decimal j ++ 32 ∷ u) k.0))),
+            (f ∙ ap (λ u. codes "map" ++ 32 ∷ u) (g ∙ ap (λ u. decimal i ++ 32 ∷ u)
+            (h ∙ ap (λ u. decimal j ++ 32 ∷ u) k.0))),
         follows,
       ))
       (λ (v, e, follows). back v e follows)
@@ -314,7 +317,8 @@ module _ (rows : List Row) (images : List Image) (line : List ℕ)
       back : (v : List ℕ) → line ≡ map_line (i, j) v → Follows i j v
           → (l : List ℕ) × (line ≡ ended l) × MapWords i j l
       back v e follows =
-          let words = codes "map" ∷ decimal i ∷ decimal j ∷ digits_text v ∷ [] in (
+          let words = codes "map" ∷ decimal i ∷ decimal j ∷ digits_text v ∷ [] in
+          let digits = value_digits (field_at rows j) v (polys j within) follows.0 in (
             join_with_byte 32 words,
             e ∙ sym (line_from_words (join_with_byte 32 words) words refl),
             (
@@ -323,7 +327,7 @@ module _ (rows : List Row) (images : List Image) (line : List ℕ)
               (
                 decimal j ++ 32 ∷ digits_text v,
                 refl,
-                (digits_text v, refl, (v, (refl, value_digits (field_at rows j) v (polys j within) follows.0), follows)),
+                (digits_text v, refl, (v, (refl, digits), follows)),
               ),
             ),
           )

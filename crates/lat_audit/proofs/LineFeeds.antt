@@ -1,6 +1,6 @@
 -- Lines that end in their only line feed, and texts that are joined of lines.
-use Rattle.std.proofs.Common.{◌≡◌, Bool, true, false, ℕ, suc, ◌+◌, ◌<◌, ◌≤◌, ◌^◌, List, [], ◌∷◌, ◌++◌, length, sym, refl, ap, ◌∙◌, subst, inl, inr, arith, eqb, cond, decimal, map, append_assoc}
-use Rattle.std.specs.Prelude.{◌≢◌, ◌⊎◌, ◌==◌, All, codes, slice_index}
+use Rattle.std.proofs.Common.{◌≡◌, Bool, true, false, ℕ, ◌<◌, ◌^◌, List, [], ◌∷◌, ◌++◌, length, sym, refl, ap, ◌∙◌, subst, inl, inr, arith, eqb, cond, decimal, map, append_assoc}
+use Rattle.std.specs.Prelude.{◌≢◌, ◌==◌, All, codes, slice_index}
 use Rattle.std.specs.List.{onto_first, join_with_byte, concat}
 use Rattle.std.specs.Str.Parse.{AllDigits}
 use Rattle.std.specs.Char.{IsAsciiAlphabetic}
@@ -8,14 +8,14 @@ use Rattle.std.proofs.lemmas.Fmt.{decimal_is_IsNumeral}
 use Rattle.std.proofs.lemmas.Str.Parse.{digit_from_value}
 use Rattle.std.proofs.lemmas.Bool.{eqb-false}
 use Rattle.std.proofs.lemmas.List.Elements.{All-head, All-tail, All-cons, All-nil, All-append, All-get_or, All-from_recursion}
-use Rattle.alg_model.specs.Lattices.{first_edition, made_name, prime_row, Row, no_row, field_at}
+use Rattle.alg_model.specs.Lattices.{first_edition, Row, no_row, field_at}
 use Rattle.lat_core.specs.Names.{IsNameByte, IsDeclaredName}
 use Rattle.lat_core.specs.Digits.{AreDigits}
 use Rattle.lat_language.specs.CanonicalText.{line_of}
 use Rattle.lat_language.specs.Commands.{digits_text}
 use Rattle.lat_audit.specs.Dumps.{header_line, fields_line, field_line, maps_line, map_line, end_line}
 use Rattle.lat_audit.specs.Readings.{ended_lines, Image, IsNewName, IsNextRow, IsNextImage}
-use Rattle.lat_audit.specs.PrivateReadings.{Lacks, ended, IsFieldPoly}
+use Rattle.lat_audit.specs.PrivateReadings.{Lacks, ended}
 use Rattle.lat_audit.proofs.ContentRows.{HasPoly}
 use Rattle.lat_audit.proofs.LineWords.{first_line}
 use Rattle.lat_audit.proofs.ReadRows.{characteristic_small, next_poly, poly_digits, value_digits}
@@ -97,7 +97,8 @@ coefficients_free c are = joined_lacks 44 (λ e. omega (arith, e)) (map decimal 
 name_bytes_free : (bs : List ℕ) → All IsNameByte bs → Lacks 10 bs
 name_bytes_free [] h = All-nil (λ b. b ≢ 10)
 name_bytes_free (b ∷ bs) h =
-    All-cons (λ b. b ≢ 10) b bs (λ e. other b (All-head IsNameByte b bs h) e) (name_bytes_free bs (All-tail IsNameByte b bs h))
+    All-cons (λ b. b ≢ 10) b bs (λ e. other b (All-head IsNameByte b bs h) e)
+    (name_bytes_free bs (All-tail IsNameByte b bs h))
   where
     other : (b : ℕ) → IsNameByte b → b ≡ 10 → ⊥
     other b (inl (inl (inl r))) e = omega (arith, r, e)
@@ -117,7 +118,8 @@ declared_free (b ∷ bs) h = All-cons (λ b. b ≢ 10) b bs (letter_free b h.0) 
 lettered_free : (letter n : ℕ) → letter ≢ 10 → n < 2 ^ 64 → Lacks 10 (letter ∷ decimal n)
 lettered_free letter n other l = All-cons (λ b. b ≢ 10) letter (decimal n) other (decimal_free n l)
 
-new_free : (rows : List Row) (name : List ℕ) → length rows < 2 ^ 64 → IsNewName rows name → Lacks 10 name
+new_free : (rows : List Row) (name : List ℕ) → length rows < 2 ^ 64 → IsNewName rows name
+    → Lacks 10 name
 new_free rows name few (inl (declared, free)) = declared_free name declared
 new_free rows name few (inr e) = subst (Lacks 10) (sym e) (lettered_free 95 (length rows) (λ t. omega (arith, t)) few)
 
@@ -125,12 +127,15 @@ name_free : (rows : List Row) (r : Row) → length rows < 2 ^ 64 → IsNextRow r
 name_free rows r small (inl (few, e)) =
     let p = slice_index first_edition.primes (length rows) in
     let is : r.field.characteristic ≡ p = ap (λ (s : Row). s.field.characteristic) e in
-    let low : r.field.characteristic < 32 = characteristic_small r.field.characteristic (next_poly rows r (inl (few, e))).characteristic in
-    subst (λ (s : Row). Lacks 10 s.name) (sym e) (lettered_free 70 p (λ t. omega (arith, t)) (omega (arith, low, is)))
+    let own = next_poly rows r (inl (few, e)) in
+    let low : r.field.characteristic < 32 = characteristic_small r.field.characteristic own.characteristic in
+    subst (λ (s : Row). Lacks 10 s.name) (sym e)
+    (lettered_free 70 p (λ t. omega (arith, t)) (omega (arith, low, is)))
 name_free rows r small (inr (many, new)) = new_free rows r.name small new.0
 
 -- ---- the lines of a dump
-number_line : (word : List ℕ) (n : ℕ) → Lacks 10 word → n < 2 ^ 64 → IsLine (line_of (word ∷ decimal n ∷ []))
+number_line : (word : List ℕ) (n : ℕ) → Lacks 10 word → n < 2 ^ 64
+    → IsLine (line_of (word ∷ decimal n ∷ []))
 number_line word n none l = words_line (word ∷ decimal n ∷ [])
     (All-from_recursion (Lacks 10) (word ∷ decimal n ∷ []) (none, (decimal_free n l, tt)))
 
@@ -152,7 +157,9 @@ pub field_is : (rows : List Row) (row : Row) → length rows < 2 ^ 64 → IsNext
 field_is rows row small next =
     let own = next_poly rows row next in
     let low : row.field.characteristic < 32 = characteristic_small row.field.characteristic own.characteristic in
-    let words = codes "field" ∷ decimal (length rows) ∷ row.name ∷ decimal row.field.characteristic ∷ digits_text row.field.polynomial ∷ [] in
+    let p = row.field.characteristic in
+    let f = row.field.polynomial in
+    let words = codes "field" ∷ decimal (length rows) ∷ row.name ∷ decimal p ∷ digits_text f ∷ [] in
     words_line words (All-from_recursion (Lacks 10) words (
       tested (codes "field") refl,
       (
@@ -160,8 +167,8 @@ field_is rows row small next =
         (
           name_free rows row small next,
           (
-            decimal_free row.field.characteristic (omega (arith, low)),
-            (coefficients_free row.field.polynomial (poly_digits row.field.characteristic row.field.polynomial own), tt),
+            decimal_free p (omega (arith, low)),
+            (coefficients_free f (poly_digits p f own), tt),
           ),
         ),
       ),

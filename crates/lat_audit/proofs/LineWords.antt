@@ -1,18 +1,17 @@
 -- Lines and their words.
-use Rattle.std.proofs.Common.{◌≡◌, ℕ, suc, ◌+◌, ◌-◌, ◌<◌, ◌≤◌, ◌^◌, List, [], ◌∷◌, ◌++◌, length, sym, refl, ap, ◌∙◌, subst, inl, inr, arith, eqb, cond, decimal, map}
-use Rattle.std.specs.Prelude.{◌≢◌, ◌⊎◌, ◌==◌, All, codes}
+use Rattle.std.proofs.Common.{◌≡◌, ℕ, ◌<◌, ◌^◌, List, [], ◌∷◌, ◌++◌, sym, refl, ap, ◌∙◌, subst, inl, inr, arith, eqb, decimal}
+use Rattle.std.specs.Prelude.{◌≢◌, All, codes}
 use Rattle.std.specs.List.{onto_first, join_with_byte}
 use Rattle.std.specs.Str.Parse.{AllDigits}
 use Rattle.std.specs.Char.{IsAsciiAlphabetic}
 use Rattle.std.proofs.lemmas.Fmt.{decimal_is_IsNumeral, decimal_injective, decimal_digit}
 use Rattle.std.proofs.lemmas.Str.Parse.{digit_from_value}
 use Rattle.std.proofs.lemmas.List.{append_cancel_left, append_cancel_right}
-use Rattle.std.proofs.lemmas.List.Elements.{All-head, All-tail, All-cons, All-nil, All-append}
+use Rattle.std.proofs.lemmas.List.Elements.{All-head, All-tail, All-cons, All-nil}
 use Rattle.std.proofs.lemmas.Bool.{ne_eqb, cond-false}
 use Rattle.alg_model.specs.Lattices.{made_name}
 use Rattle.lat_core.specs.Names.{IsNameByte, IsDeclaredName}
 use Rattle.lat_language.specs.CanonicalText.{line_of}
-use Rattle.lat_language.specs.Commands.{digits_text}
 use Rattle.lat_audit.specs.Readings.{ended_lines}
 use Rattle.lat_audit.specs.PrivateReadings.{Lacks, IsCut, ended, IsFirstLine, AreFieldWords, AreMapWords}
 

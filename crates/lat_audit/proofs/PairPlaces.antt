@@ -1,17 +1,17 @@
 -- Where the map of each pair stands in a list, and what is stored for the pair.
-use Rattle.std.proofs.Common.{◌≡◌, true, false, ℕ, zero, suc, ◌+◌, ◌*◌, ◌<◌, ◌≤◌, Option, Some, None, List, [], ◌∷◌, ◌++◌, length, get_or, set, map, sym, refl, ap, ap₂, ◌∙◌, subst, inl, inr, ⊎_elim, arith, cond, get_or-set_same, get_or-set_other, append_assoc, length-append}
-use Rattle.std.specs.Prelude.{◌⊎◌, ◌≢◌, All, AllPairs, MatchOption, slice_index_or}
+use Rattle.std.proofs.Common.{◌≡◌, false, ℕ, zero, suc, ◌+◌, ◌*◌, ◌<◌, Option, Some, None, List, [], ◌∷◌, ◌++◌, length, get_or, set, map, sym, refl, ap, ◌∙◌, subst, ⊎_elim, arith, cond, get_or-set_same, get_or-set_other, append_assoc, length-append}
+use Rattle.std.specs.Prelude.{◌≢◌, All, AllPairs, MatchOption, slice_index_or}
 use Rattle.std.specs.FinMap.{get, insert, from_entries, get-from_entries, from_entries_push, find}
 use Rattle.std.specs.Ordering.{eq_by_cmp, is_eq}
 use Rattle.std.proofs.lemmas.Bool.{cases_eq, cases_Bool}
 use Rattle.std.proofs.lemmas.Cmp.{tied_itself}
 use Rattle.std.proofs.lemmas.List.{length_push, get_or_append_left, map-append, append-nil}
 use Rattle.std.proofs.lemmas.List.Elements.{All-head, All-tail, All-push, All-nil, All-get_or, All-from_get_or}
-use Rattle.alg_model.specs.Lattices.{first_edition, Row, Lattice, Stored, pair_cmp}
+use Rattle.alg_model.specs.Lattices.{first_edition, Row, Stored, pair_cmp}
 use Rattle.alg_compatible.proofs.Tables.{pair_total, pair_antisymmetric}
 use Rattle.lat_core.specs.declared.rows.MapRow.{MapRow}
 use Rattle.lat_core.specs.declared.TheConstants.{MAX_FIELDS}
-use Rattle.lat_core.specs.SharedRows.{IsBetween, AreBetween, with_maps, with_rows, no_rows}
+use Rattle.lat_core.specs.SharedRows.{IsBetween, with_maps, with_rows, no_rows}
 use Rattle.lat_audit.specs.PrivateReadings.{IsBefore}
 use Rattle.lat_audit.specs.PrivateFaults.{entry_of}
 use Rattle.lat_audit.specs.PrivateTables.{pair_of, HasNoMap, IsMapAt, ArePlaces, lattice_with, IsTable}

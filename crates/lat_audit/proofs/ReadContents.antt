@@ -1,15 +1,15 @@
 -- What a text that is a dump holds, and that it is the text of that.
-use Rattle.std.proofs.Common.{◌≡◌, ℕ, suc, ◌+◌, ◌≤◌, Result, Ok, Err, List, [], ◌∷◌, ◌++◌, length, sym, refl, ap, ap₂, ◌∙◌, subst, inl, inr, arith, append_assoc, eqb, cond, Bool, true, false}
-use Rattle.std.specs.Prelude.{◌≢◌, ◌==◌}
+use Rattle.std.proofs.Common.{◌≡◌, ℕ, suc, ◌+◌, ◌≤◌, Ok, List, [], ◌∷◌, ◌++◌, length, sym, refl, ap, ap₂, ◌∙◌, subst, inl, inr, arith, append_assoc, eqb, cond, Bool, true, false}
+use Rattle.std.specs.Prelude.{◌==◌}
 use Rattle.std.specs.List.{concat}
-use Rattle.std.proofs.lemmas.List.{append-nil, length-append, length_push}
+use Rattle.std.proofs.lemmas.List.{append-nil, length_push}
 use Rattle.std.proofs.lemmas.Bool.{eqb-true}
 use Rattle.alg_model.specs.Lattices.{first_edition, Row}
 use Rattle.lat_audit.specs.Dumps.{header_line, fields_line, field_line, field_lines, maps_line, map_line, end_line}
 use Rattle.lat_audit.specs.Readings.{ended_lines, Image, Content, IsNextRow, IsNextImage, Place, Header, FieldCount, Field, MapCount, Map, End, Behind, field_place, map_place, LeadsTo, Reading, IsDump}
 use Rattle.lat_audit.specs.PrivateContents.{image_lines, content_text, IsContent}
 use Rattle.lat_audit.specs.declared.line_forms.TheConstants.{MAX_MAPS}
-use Rattle.lat_audit.proofs.ContentRows.{Follow, follow_content}
+use Rattle.lat_audit.proofs.ContentRows.{pushed, Follow, follow_content}
 use Rattle.lat_audit.proofs.LineFeeds.{joined_text}
 
 -- ---- what the text behind a place tells
@@ -78,7 +78,8 @@ module _ (text : List ℕ) (c : Content) where
       → Told (map_place rows count images) text c → MapsTold rows count images text c
   maps_told rows count images told = by_test (length images == count) refl told where
     by_test : (t : Bool) → eqb (length images) count ≡ t
-        → Told (cond t (End (record { rows = rows; images = images })) (Map rows count images)) text c
+        → Told (cond t (End (record { rows = rows; images = images })) (Map rows count images))
+        text c
         → MapsTold rows count images text c
     by_test true is at = record {
       more = [];
@@ -90,13 +91,6 @@ module _ (text : List ℕ) (c : Content) where
     by_test false is at = at
 
 -- ---- the whole text
--- Two contents of the same rows and the same images are one; what is told of one is a content.
-told_content : (rows : List Row) (images : List Image) → length first_edition.primes ≤ length rows
-    → length rows ≤ first_edition.room → length images ≤ MAX_MAPS → Follow IsNextRow [] rows
-    → Follow (IsNextImage rows) [] images → IsContent (record { rows = rows; images = images })
-told_content rows images enough few few_images follow next =
-    follow_content (record { rows = rows; images = images }) enough few few_images follow next
-
 -- the lines joined
 all_joined : (line text one two three : List ℕ) (n m : ℕ) (rows : List Row) (images : List Image)
     → line ≡ header_line 1 → text ≡ fields_line n ++ one → one ≡ field_lines 0 rows ++ two
@@ -119,15 +113,13 @@ whole line text c is all =
     let few : length rows ≤ first_edition.room = omega (arith, counted, all.few) in
     let few_images : length images ≤ MAX_MAPS = omega (arith, numbered, all.fields.maps.few) in
     subst (λ (d : Content). IsContent d × (line ++ text ≡ content_text d)) (sym all.fields.maps.maps.content) (
-      told_content rows images enough few few_images all.fields.follow all.fields.maps.maps.follow,
+      follow_content (record { rows = rows; images = images }) enough few few_images
+          all.fields.follow all.fields.maps.maps.follow,
       all_joined line text all.rest all.fields.rest all.fields.maps.rest all.number all.fields.maps.number rows images
           is all.told all.fields.told all.fields.maps.told all.fields.maps.maps.told counted numbered,
     )
 
 -- ---- a line more
-pushed : {X : Type 0} (before : List X) (x : X) (xs : List X) → (before ++ x ∷ []) ++ xs ≡ before ++ x ∷ xs
-pushed before x xs = append_assoc before (x ∷ []) xs
-
 -- a line, and behind it a text of two parts
 in_front : (line first text front behind : List ℕ) → line ≡ first → text ≡ front ++ behind
     → line ++ text ≡ (first ++ front) ++ behind
@@ -153,13 +145,15 @@ module _ (line text : List ℕ) (c : Content) where
       → FieldsTold count (rows ++ row ∷ []) text c → FieldsTold count rows (line ++ text) c
   fields_more count rows row is next behind =
       let moved = pushed rows row behind.more in
-      let number : length (rows ++ row ∷ []) ≡ suc (length rows) = let l = length_push rows row in omega (arith, l) in
+      let number : length (rows ++ row ∷ []) ≡ suc (length rows) =
+      let l = length_push rows row in omega (arith, l) in
       record {
         more = row ∷ behind.more;
         rest = behind.rest;
         counted = ap length (sym moved) ∙ behind.counted;
         follow = (next, behind.follow);
-        told = in_front line (field_line (length rows) row) text (field_lines (suc (length rows)) behind.more) behind.rest is
+        told = in_front line (field_line (length rows) row) text
+            (field_lines (suc (length rows)) behind.more) behind.rest is
             (behind.told ∙ ap (λ k. field_lines k behind.more ++ behind.rest) number);
         maps = subst (λ (all : List Row). CountTold all behind.rest c) moved behind.maps;
       }
@@ -206,7 +200,8 @@ lines_told (line ∷ lines) place n c (inl (next, leads, reads)) =
 lines_told (line ∷ lines) place n c (inr (none, is)) = cc
 
 -- a text that is a dump has a content, and is its text
-pub read_content : (text : List ℕ) (c : Content) → IsDump text c → IsContent c × (text ≡ content_text c)
+pub read_content : (text : List ℕ) (c : Content) → IsDump text c
+    → IsContent c × (text ≡ content_text c)
 read_content text c dump =
     let told = lines_told (ended_lines text) Header 1 c dump in
     (told.0, sym (joined_text text) ∙ told.1)

@@ -1,6 +1,6 @@
 -- What lines say at their places.
-use Rattle.std.proofs.Common.{◌≡◌, Bool, true, false, ℕ, ◌+◌, ◌-◌, ◌<◌, ◌≤◌, Result, Ok, Err, List, [], ◌∷◌, ◌++◌, length, sym, refl, ap, ◌∙◌, subst, inl, inr, arith, eqb, cond}
-use Rattle.std.specs.Prelude.{◌≢◌, ◌⊎◌, ◌==◌, All}
+use Rattle.std.proofs.Common.{◌≡◌, Bool, true, false, ℕ, ◌+◌, ◌<◌, Ok, Err, List, [], ◌∷◌, ◌++◌, length, sym, refl, ◌∙◌, subst, inl, inr, arith, eqb, cond}
+use Rattle.std.specs.Prelude.{◌≢◌, ◌==◌}
 use Rattle.std.specs.List.{onto_first, join_with_byte}
 use Rattle.std.proofs.lemmas.Bool.{eq-eqb, ne_eqb, cond-true, cond-false}
 use Rattle.alg_model.specs.Lattices.{Row}

@@ -1,21 +1,20 @@
 -- The maps that images are.
-use Rattle.std.proofs.Common.{◌≡◌, true, false, ℕ, ◌+◌, ◌<◌, ◌≤◌, Option, Some, None, List, [], ◌∷◌, ◌++◌, length, get_or, take, map, sym, refl, ap, ap₂, ◌∙◌, subst, inl, inr, ⊎_elim, arith, get_or-take}
-use Rattle.std.specs.Prelude.{◌⊎◌, ◌↔◌, All, Contains, MatchOption, IsSome, IfSome, slice_index_or}
-use Rattle.std.specs.declared.cmp.Ordering.TheVariants.{Less}
+use Rattle.std.proofs.Common.{◌≡◌, true, false, ℕ, ◌+◌, ◌<◌, Option, Some, None, List, [], ◌∷◌, ◌++◌, length, get_or, take, map, sym, refl, ap, ap₂, ◌∙◌, subst, ⊎_elim, arith, get_or-take}
+use Rattle.std.specs.Prelude.{◌↔◌, MatchOption, IsSome, IfSome, slice_index_or}
 use Rattle.std.proofs.lemmas.List.{map-append, take_more, get_or_default, length-take-le}
-use Rattle.std.proofs.lemmas.List.Elements.{All-get_or, All-push, All-nil}
+use Rattle.std.proofs.lemmas.List.Elements.{All-get_or, All-push}
 use Rattle.std.proofs.lemmas.Bool.{cases_lt, cases_eq}
 use Rattle.alg_model.specs.Maps.{Field, degree_of, constants, powers}
 use Rattle.alg_model.specs.Roots.{IsRoot}
 use Rattle.alg_model.specs.Candidates.{map_sending}
 use Rattle.alg_model.specs.Lattices.{Row, field_at, pair_cmp}
-use Rattle.ff_embed.specs.SmallEmbeddings.{FieldMap, IsSmallEmbedding}
-use Rattle.lat_core.specs.SharedRows.{IsBetween, AreBetween}
+use Rattle.ff_embed.specs.SmallEmbeddings.{FieldMap}
+use Rattle.lat_core.specs.SharedRows.{IsBetween}
 use Rattle.lat_core.specs.declared.rows.MapRow.{MapRow}
-use Rattle.lat_audit.specs.Readings.{Image, Content, map_of}
+use Rattle.lat_audit.specs.Readings.{Image, map_of}
 use Rattle.lat_audit.specs.Verdicts.{IsFirst, IsGeneratorImage, IsWrongImage}
 use Rattle.lat_audit.specs.PrivateReadings.{IsBefore, IsRising}
-use Rattle.lat_audit.specs.PrivateFaults.{IsImage, entry_of, AreGeneratorImages, AreMapsOf}
+use Rattle.lat_audit.specs.PrivateFaults.{entry_of, AreGeneratorImages, AreMapsOf}
 use Rattle.lat_audit.proofs.StoredMaps.{pair_before}
 
 -- ---- one map

@@ -1,25 +1,24 @@
 -- The rows and the images that lines are.
-use Rattle.std.proofs.Common.{◌≡◌, ℕ, zero, suc, ◌+◌, ◌-◌, ◌<◌, ◌≤◌, ◌^◌, Option, Some, None, List, [], ◌∷◌, ◌++◌, length, get_or, sym, refl, ap, ◌∙◌, subst, inl, inr, arith, eqb, decimal}
-use Rattle.std.specs.Prelude.{◌≢◌, ◌⊎◌, All, AllPairs, Contains, codes, SomeIff, MatchOption, slice_index, slice_index_or}
+use Rattle.std.proofs.Common.{◌≡◌, ℕ, zero, suc, ◌-◌, ◌<◌, ◌≤◌, ◌^◌, Option, Some, None, List, [], ◌∷◌, length, get_or, sym, refl, ap, ◌∙◌, subst, inl, inr, arith, eqb, decimal}
+use Rattle.std.specs.Prelude.{◌≢◌, All, Contains, codes, SomeIff, MatchOption, slice_index, slice_index_or}
 use Rattle.std.specs.List.{join_with_byte, slice_get}
 use Rattle.std.proofs.lemmas.Fmt.{decimal_injective}
 use Rattle.std.proofs.lemmas.List.Elements.{All-get_or, All-from_get_or, All-from_recursion, All-cons, All-nil}
 use Rattle.std.proofs.lemmas.List.{get_or_default}
 use Rattle.std.proofs.lemmas.Bool.{cases_lt, ne_eqb, cond-false}
-use Rattle.alg_model.specs.Coefficients.{mod_ops, residues}
+use Rattle.alg_model.specs.Coefficients.{mod_ops}
 use Rattle.alg_model.specs.Polynomials.{trim, leading, cons_trimmed}
 use Rattle.alg_model.specs.Maps.{Field, field_values}
-use Rattle.alg_model.specs.Lattices.{first_edition, made_name, prime_row, Row, field_at, no_row}
+use Rattle.alg_model.specs.Lattices.{first_edition, prime_row, Row, no_row}
 use Rattle.alg_compatible.proofs.Tables.{pair_total}
 use Rattle.lat_core.specs.declared.TheConstants.{MAX_FIELDS}
 use Rattle.lat_core.specs.Names.{IsDeclaredName, IsFieldName}
 use Rattle.lat_core.specs.Digits.{AreDigits}
 use Rattle.lat_core.proofs.NameLengths.{prime_named}
-use Rattle.lat_language.specs.CanonicalText.{line_of}
 use Rattle.lat_language.specs.Commands.{digits_text}
 use Rattle.lat_language.specs.PrivateCoefficients.{digits_text_injective}
 use Rattle.lat_audit.specs.Dumps.{field_line, map_line}
-use Rattle.lat_audit.specs.Readings.{Image, IsNewName, IsNewRow, IsNextRow, IsNextImage}
+use Rattle.lat_audit.specs.Readings.{Image, IsNewName, IsNextRow, IsNextImage}
 use Rattle.lat_audit.specs.PrivateReadings.{Lacks, ended, AreFieldWords, AreMapWords, IsFieldPoly, AreCoefficients, IsBefore, IsRising}
 use Rattle.lat_audit.proofs.LineWords.{line_words, line_from_words, decimal_lacks, declared_lacks, made_lacks, one_field, one_map}
 
@@ -179,7 +178,7 @@ name_lacks rows r small (inl (few, e)) =
     (All-cons (λ b. b ≢ 32) 70 (decimal p) (λ t. omega (arith, t)) (decimal_lacks p fits))
 name_lacks rows r small (inr (many, new)) = new_lacks rows r.name small new.0
 
-row_words : (rows : List Row) (line : List ℕ) (r : Row) → length rows < 2 ^ 64 → IsNextRow rows r
+pub row_words : (rows : List Row) (line : List ℕ) (r : Row) → length rows < 2 ^ 64 → IsNextRow rows r
     → ended line ≡ field_line (length rows) r
     → AreFieldWords line (decimal (length rows)) r.name (decimal r.field.characteristic) (digits_text r.field.polynomial)
 row_words rows line r small next e =
@@ -275,7 +274,7 @@ module _ (images : List Image) (last : Image) (pair : ℕ × ℕ) (rising : IsRi
       subst (λ (e : Image). IsBefore e.0 pair) (slice_get_is images (length images - 1) last last is)
       (All-get_or (λ (e : Image). IsBefore e.0 pair) images (length images - 1) last (omega (arith, some)) all)
 
-image_words : (rows : List Row) (images : List Image) (line : List ℕ) (e : Image)
+pub image_words : (rows : List Row) (images : List Image) (line : List ℕ) (e : Image)
     → length rows ≤ MAX_FIELDS → IsNextImage rows images e → ended line ≡ map_line e.0 e.1
     → AreMapWords line (decimal e.0.0) (decimal e.0.1) (digits_text e.1)
 image_words rows images line e few next is =

@@ -1,5 +1,5 @@
 -- The finite map of entries whose keys rise has these entries.
-use Rattle.std.proofs.Common.{◌≡◌, ℕ, zero, suc, ◌+◌, ◌<◌, true, false, Bool, List, [], ◌∷◌, length, get_or, refl, sym, ap, ◌∙◌, subst, Ordering, Less, arith}
+use Rattle.std.proofs.Common.{◌≡◌, suc, true, false, Bool, List, [], ◌∷◌, sym, ap, ◌∙◌, subst, Ordering, Less, arith}
 use Rattle.std.specs.Prelude.{◌&&◌, All, AllPairs}
 use Rattle.std.specs.Cmp.{IsTotalOrder}
 use Rattle.std.specs.Ordering.{is_lt}

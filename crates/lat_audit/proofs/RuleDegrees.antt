@@ -1,14 +1,14 @@
 -- Intersections are told by degrees, once the other rules hold.
-use Rattle.std.proofs.Common.{◌≡◌, ◌≢◌, true, false, Bool, Option, Some, None, ℕ, ◌<◌, List, length, sym, refl, ap, subst}
+use Rattle.std.proofs.Common.{◌≡◌, ◌≢◌, true, false, Bool, Option, Some, None, ℕ, ◌<◌, List, length}
 use Rattle.std.specs.Bool.{MatchBool}
 use Rattle.std.specs.Prelude.{MatchOption}
 use Rattle.std.specs.Int.{IsGcd}
 use Rattle.std.specs.FinMap.{get}
 use Rattle.std.proofs.lemmas.Nat.Gcd.{dvd_antisymm}
-use Rattle.alg_model.specs.Maps.{Field, degree_of, comp, IsFiniteField, IsEmbedding}
+use Rattle.alg_model.specs.Maps.{degree_of, comp}
 use Rattle.alg_model.specs.Lattices.{Lattice, Stored, field_at}
 use Rattle.alg_galois.proofs.Meets.{meet_from_gcd, gcd_from_meet}
-use Rattle.lat_audit.specs.Verdicts.{IsIntersection, LacksIntersection}
+use Rattle.lat_audit.specs.Verdicts.{LacksIntersection}
 use Rattle.lat_audit.specs.PrivateRules.{AreComposed, IsCommonSubfield, KeepsIntersection, HaveOverfield, BreaksIntersection}
 use Rattle.lat_audit.proofs.RuleMaps.{stored_once, none_stored}
 

@@ -1,7 +1,7 @@
 -- Rules that are kept are broken at no fields.
-use Rattle.std.proofs.Common.{◌≡◌, ℕ, ◌<◌, List, length}
-use Rattle.alg_model.specs.Lattices.{Lattice, Stored}
-use Rattle.lat_audit.specs.Verdicts.{None, Triple, LacksIdentity, LacksPrimeSubfield, LacksInverse, LacksComposition}
+use Rattle.std.proofs.Common.{ℕ, ◌<◌, length}
+use Rattle.alg_model.specs.Lattices.{Lattice}
+use Rattle.lat_audit.specs.Verdicts.{None, LacksIdentity, LacksPrimeSubfield, LacksInverse, LacksComposition}
 use Rattle.lat_audit.specs.PrivateRules.{HasIdentity, HasPrimeSubfield, IsOfEdition, KeepsInverse, KeepsComposition, HoldsMaps, AreComposed}
 use Rattle.lat_audit.proofs.RuleOrders.{not_lacking, inverse_kept, composition_kept}
 

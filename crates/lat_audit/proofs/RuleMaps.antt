@@ -1,14 +1,13 @@
 -- Maps that the images of the generators tell, and what is stored for a pair.
-use Rattle.std.proofs.Common.{◌≡◌, true, false, Bool, ℕ, ◌<◌, Option, Some, None, List, sym, refl, ap, ap₂, ◌∙◌, subst, inl, inr, arith}
-use Rattle.std.specs.Prelude.{◌↔◌, IsTrue, MatchOption, Contains}
+use Rattle.std.proofs.Common.{◌≡◌, Bool, ℕ, Some, None, List, sym, refl, ap, ◌∙◌, subst}
+use Rattle.std.specs.Prelude.{◌↔◌, IsTrue}
 use Rattle.std.specs.FinMap.{get}
-use Rattle.alg_model.specs.Maps.{Field, IsFiniteField, field_values, degree_of, generator, apply, comp, identity_map, IsEmbedding}
-use Rattle.alg_model.specs.Lattices.{Row, Lattice, Stored, field_at}
+use Rattle.alg_model.specs.Maps.{Field, generator, apply, comp, identity_map, IsEmbedding}
+use Rattle.alg_model.specs.Lattices.{Lattice, Stored}
 use Rattle.alg_galois.proofs.Embeddings.{identity_embedding, apply_identity, generator_is_value, comp_embedding, apply_comp}
 use Rattle.ff_field.specs.SmallFields.{IsSmallField}
 use Rattle.ff_embed.specs.SmallEmbeddings.{FieldMap, IsSmallEmbedding}
 use Rattle.ff_embed.proofs.Undoing.{image_determines}
-use Rattle.lat_core.specs.SharedRows.{IsBetween}
 
 -- ---- the image of the generator
 identity_of : Field → FieldMap

@@ -1,18 +1,17 @@
 -- The first fields at which a rule is broken.
-use Rattle.std.proofs.Common.{◌≡◌, true, false, Bool, ℕ, ◌+◌, ◌<◌, ◌≤◌, Option, Some, None, List, length, sym, refl, ap, ◌∙◌, subst, inl, inr, ⊎_elim, arith, nat_cmp, Ordering, Less, Equal, Greater}
-use Rattle.std.specs.Prelude.{◌⊎◌, ◌≢◌, Contains, AllPairs, slice_index, slice_index_or}
+use Rattle.std.proofs.Common.{◌≡◌, true, false, Bool, ℕ, ◌+◌, ◌<◌, None, length, sym, refl, ap, ◌∙◌, subst, inl, inr, ⊎_elim, arith, nat_cmp, Ordering, Less, Equal, Greater}
+use Rattle.std.specs.Prelude.{◌⊎◌, slice_index}
 use Rattle.std.specs.Bool.{MatchBool}
 use Rattle.std.specs.Cmp.{ranked}
 use Rattle.std.specs.Ordering.{ordering_then}
 use Rattle.std.specs.FinMap.{get}
 use Rattle.std.proofs.lemmas.Bool.{cases_lt, cases_eq}
-use Rattle.alg_model.specs.Maps.{Field, degree_of, comp}
-use Rattle.alg_model.specs.Lattices.{first_edition, Lattice, Stored, field_at, pair_cmp}
+use Rattle.alg_model.specs.Lattices.{first_edition, Lattice, Stored, pair_cmp}
 use Rattle.alg_compatible.proofs.Editions.{first_is_edition}
-use Rattle.lat_audit.specs.Verdicts.{IsFirst, Triple, triple_cmp, IsPrimeField, LacksPrimeSubfield, LacksInverse, LacksComposition, HasInverse}
-use Rattle.lat_audit.specs.PrivateRules.{HasPrimeSubfield, IsOfEdition, KeepsInverse, KeepsComposition, BreaksInverse, BreaksComposition}
+use Rattle.lat_audit.specs.Verdicts.{IsFirst, Triple, triple_cmp, IsPrimeField, LacksPrimeSubfield, LacksInverse, LacksComposition}
+use Rattle.lat_audit.specs.PrivateRules.{HasPrimeSubfield, IsOfEdition, KeepsInverse, KeepsComposition}
 use Rattle.lat_audit.proofs.StoredMaps.{pair_before}
-use Rattle.lat_audit.proofs.RuleMaps.{stored_once, none_stored}
+use Rattle.lat_audit.proofs.RuleMaps.{none_stored}
 
 -- ---- numbers, pairs and triples
 pub first_number : {P : ℕ → Type 0} {Good : ℕ → Type 0} (i : ℕ) → ((b : ℕ) → Good b → P b → ⊥)
@@ -80,8 +79,8 @@ pub told_false : (P Q : Type 0) (b : Bool) → b ≡ false → MatchBool b P Q �
 told_false P Q b e h = subst (λ t. MatchBool t P Q) e h
 
 -- ---- prime subfields
-module _ (L : Lattice) (E : IsOfEdition L) where
-  one_prime : (p q j : ℕ) → IsPrimeField L p j → IsPrimeField L q j → p ≡ q
+module _ (L : Lattice) (edition : L.edition ≡ first_edition) where
+  pub one_prime : (p q j : ℕ) → IsPrimeField L p j → IsPrimeField L q j → p ≡ q
   one_prime p q j a b = ⊎_elim (λ e. e)
       (λ apart. absurd (⊎_elim
       (λ l. differ p q l a b)
@@ -91,16 +90,17 @@ module _ (L : Lattice) (E : IsOfEdition L) where
     where
       differ : (p q : ℕ) → p < q → IsPrimeField L p j → IsPrimeField L q j → ⊥
       differ p q l a b =
-          let primes = ap (λ e. e.primes) E.edition in
+          let primes = ap (λ e. e.primes) edition in
           let within : q < length first_edition.primes = subst (λ ps. q < length ps) primes b.within in
           first_is_edition.primes_differ p q 0 l within
           (subst (λ ps. slice_index ps p ≡ slice_index ps q) primes (a.prime ∙ sym b.prime))
 
+module _ (L : Lattice) (E : IsOfEdition L) where
   pub lacks_prime : (q j : ℕ) → j < length L.rows → IsPrimeField L q j → get L.maps (q, j) ≡ None
       → LacksPrimeSubfield L j
   lacks_prime q j l prime none = record {
     within = l;
-    lacking = λ p m is s. none_stored L q j m none (subst (λ n. Stored L n j m) (one_prime p q j is prime) s);
+    lacking = λ p m is s. none_stored L q j m none (subst (λ n. Stored L n j m) (one_prime L E.edition p q j is prime) s);
   }
 
   pub not_lacking : (j : ℕ) → HasPrimeSubfield L j → LacksPrimeSubfield L j → ⊥

@@ -1,7 +1,7 @@
 -- The first field whose polynomial has a factor, and the first pair whose image is that of no
 -- embedding, or that there is none.
-use Rattle.std.proofs.Common.{◌≡◌, ℕ, ◌+◌, ◌-◌, ◌<◌, ◌≤◌, List, [], length, sym, refl, ap, ◌∙◌, subst, inl, inr, ⊎_elim, arith, nat_cmp}
-use Rattle.std.specs.Prelude.{◌⊎◌, All, Contains, slice_index_or}
+use Rattle.std.proofs.Common.{◌≡◌, ℕ, ◌<◌, ◌≤◌, List, [], length, refl, subst, inl, inr, ⊎_elim, arith, nat_cmp}
+use Rattle.std.specs.Prelude.{Contains}
 use Rattle.std.proofs.lemmas.List.Elements.{All-get_or}
 use Rattle.std.proofs.lemmas.Bool.{cases_lt, cases_eq}
 use Rattle.alg_model.specs.Coefficients.{residues}
@@ -10,10 +10,10 @@ use Rattle.alg_model.specs.Polynomials.{evaluate}
 use Rattle.alg_model.specs.Values.{degree}
 use Rattle.alg_model.specs.Maps.{Field, field_values, constants}
 use Rattle.alg_model.specs.Roots.{IsRoot}
-use Rattle.alg_model.specs.Lattices.{first_edition, Row, field_at, pair_cmp}
+use Rattle.alg_model.specs.Lattices.{Row, field_at, pair_cmp}
 use Rattle.alg_compatible.proofs.Editions.{first_is_edition}
 use Rattle.lat_core.proofs.Decisions.{irreducible_or_factored}
-use Rattle.lat_language.specs.PrivateDecisions.{Decided, same_text, same_words}
+use Rattle.lat_language.specs.PrivateDecisions.{Decided, same_text}
 use Rattle.lat_audit.specs.Readings.{Image, Content}
 use Rattle.lat_audit.specs.Verdicts.{IsReducible, IsGeneratorImage, IsWrongImage}
 use Rattle.lat_audit.specs.PrivateReadings.{IsFieldPoly}

@@ -2,12 +2,12 @@
 --     ArePolys rows       the rows have polynomials of the edition
 --     AreWithin rows images     the images are between fields of these rows
 --     IsSound place       what was read before is so
-use Rattle.std.proofs.Common.{◌≡◌, Bool, true, false, ℕ, ◌+◌, ◌<◌, ◌≤◌, cond, eqb, Result, Ok, Err, List, [], ◌∷◌, ◌++◌, length, sym, refl, ap, ◌∙◌, subst, inl, inr, ⊎_elim, arith}
-use Rattle.std.specs.Prelude.{◌≢◌, ◌⊎◌, ◌==◌, All, slice_index_or}
+use Rattle.std.proofs.Common.{◌≡◌, Bool, true, false, ℕ, ◌+◌, ◌<◌, ◌≤◌, cond, Result, Ok, Err, List, [], ◌∷◌, ◌++◌, length, sym, refl, ap, ◌∙◌, subst, inl, inr, arith}
+use Rattle.std.specs.Prelude.{◌==◌, All}
 use Rattle.std.proofs.lemmas.List.Elements.{All-get_or, All-push, All-nil}
 use Rattle.alg_model.specs.Lattices.{first_edition, Row, no_row, field_at}
 use Rattle.lat_language.specs.PrivateDecisions.{Decided, same_text}
-use Rattle.lat_audit.specs.Dumps.{header_line, fields_line, field_line, maps_line, map_line, end_line}
+use Rattle.lat_audit.specs.Dumps.{header_line, fields_line, maps_line, end_line}
 use Rattle.lat_audit.specs.Readings.{ended_lines, Image, Content, Place, Header, FieldCount, Field, MapCount, Map, End, Behind, field_place, map_place, LeadsTo, Reading, IsDump}
 use Rattle.lat_audit.specs.PrivateReadings.{IsFieldPoly}
 use Rattle.lat_audit.specs.declared.line_forms.TheConstants.{MAX_MAPS}
@@ -60,7 +60,8 @@ sound_next : (place : Place) (line : List ℕ) (next : Place) → IsSound place
 sound_next Header line next sound h = subst IsSound (sym h.1) tt
 sound_next FieldCount line next sound h = subst IsSound (sym h.4) (sound_field h.0 [] (All-nil IsPoly))
 sound_next (Field count rows) line next sound h =
-    subst IsSound (sym h.3) (sound_field count (rows ++ h.0 ∷ []) (All-push IsPoly rows h.0 sound (next_poly rows h.0 h.2)))
+    subst IsSound (sym h.3) (sound_field count (rows ++ h.0 ∷ [])
+    (All-push IsPoly rows h.0 sound (next_poly rows h.0 h.2)))
 sound_next (MapCount rows) line next sound h =
     subst IsSound (sym h.3) (sound_map rows h.0 [] sound (All-nil (IsWithin rows)))
 sound_next (Map rows count images) line next sound h =

@@ -1,16 +1,16 @@
 -- The first fields at which a rule is broken, or that it is kept.
-use Rattle.std.proofs.Common.{◌≡◌, ℕ, zero, suc, ◌+◌, ◌-◌, ◌%◌, ◌<◌, ◌≤◌, Option, Some, None, List, length, sym, refl, ap, ◌∙◌, subst, inl, inr, ⊎_elim, arith, nat_cmp}
-use Rattle.std.specs.Prelude.{◌⊎◌, slice_index}
+use Rattle.std.proofs.Common.{◌≡◌, ℕ, zero, suc, ◌+◌, ◌%◌, ◌<◌, Option, Some, None, List, length, refl, subst, inl, inr, ⊎_elim, arith, nat_cmp}
+use Rattle.std.specs.Prelude.{slice_index}
 use Rattle.std.specs.Int.{IsGcd}
 use Rattle.std.specs.FinMap.{get}
 use Rattle.std.proofs.Math.Nat.{mod-lt}
 use Rattle.std.proofs.lemmas.Nat.Gcd.{IsGcd-from_zero, IsGcd-from_mod, same_from_IsGcd}
-use Rattle.std.proofs.lemmas.Bool.{cases_lt, cases_eq}
+use Rattle.std.proofs.lemmas.Bool.{cases_eq}
 use Rattle.alg_model.specs.Maps.{degree_of, comp, identity_map}
 use Rattle.alg_model.specs.Lattices.{Lattice, Stored, field_at, pair_cmp}
 use Rattle.lat_language.specs.PrivateDecisions.{Decided, same_words}
-use Rattle.lat_audit.specs.Verdicts.{IsFirst, None as Never, Triple, triple_cmp, LacksIdentity, LacksPrimeSubfield, IsPrimeField, HasInverse, LacksInverse, LacksComposition, LacksIntersection}
-use Rattle.lat_audit.specs.PrivateRules.{HoldsMaps, AreComposed, IsCommonSubfield, KeepsComposition}
+use Rattle.lat_audit.specs.Verdicts.{None as Never, triple_cmp, LacksIdentity, LacksPrimeSubfield, HasInverse, LacksInverse, LacksComposition, LacksIntersection}
+use Rattle.lat_audit.specs.PrivateRules.{HoldsMaps, AreComposed, IsCommonSubfield, KeepsComposition, KeepsIntersection}
 use Rattle.lat_audit.proofs.RuleMaps.{stored_once}
 use Rattle.lat_audit.proofs.RuleFaults.{are_composed}
 use Rattle.lat_audit.proofs.RuleDegrees.{meets_by_degree, lacks_by_degree, intersection_kept}
@@ -62,19 +62,38 @@ module _ (L : Lattice) where
       (λ i l. told_as (λ fails. record { within = l; lacking = fails }) (λ x. x.lacking)
       (fails_told (stored_told i i (identity_map (field_at L.rows i)))))
 
+  pub identities_kept : Never (LacksIdentity L) → (i : ℕ) → i < length L.rows
+      → Stored L i i (identity_map (field_at L.rows i))
+  identities_kept none i l = holds_told (stored_told i i (identity_map (field_at L.rows i)))
+      (λ fails. none i (record { within = l; lacking = fails }))
+
   abbrev HasPrime : ℕ → ℕ → Type 0
   HasPrime j q = (slice_index L.edition.primes q ≡ (field_at L.rows j).characteristic)
       × ((m : Map) × Stored L q j m)
 
+  some_prime : (j : ℕ) → Decided ((q : ℕ) × (q < length L.edition.primes) × HasPrime j q)
+  some_prime j = some_below (HasPrime j) (length L.edition.primes)
+      (λ q w. both_told (cases_eq (slice_index L.edition.primes q) (field_at L.rows j).characteristic)
+      (some_stored q j))
+
+  lacks_prime : (j : ℕ) → j < length L.rows
+      → ¬ ((q : ℕ) × (q < length L.edition.primes) × HasPrime j q) → LacksPrimeSubfield L j
+  lacks_prime j l fails = record {
+    within = l;
+    lacking = λ q m is s. fails (q, is.within, (is.prime, (m, s)));
+  }
+
   prime_told : (j : ℕ) → j < length L.rows → Decided (LacksPrimeSubfield L j)
   prime_told j l = told_as
-      (λ fails. record {
-        within = l;
-        lacking = λ q m is s. fails (q, is.within, (is.prime, (m, s)));
-      })
+      (lacks_prime j l)
       (λ lacks (q, w, (e, (m, s))). lacks.lacking q m (record { within = w; prime = e }) s)
-      (fails_told (some_below (HasPrime j) (length L.edition.primes)
-      (λ q w. both_told (cases_eq (slice_index L.edition.primes q) (field_at L.rows j).characteristic) (some_stored q j))))
+      (fails_told (some_prime j))
+
+  pub prime_subfields_kept : Never (LacksPrimeSubfield L) → (j : ℕ) → j < length L.rows
+      → (q : ℕ) × (m : Map) × (q < length L.edition.primes) × Stored L q j m
+  prime_subfields_kept none j l =
+      let (q, w, (e, (m, s))) = holds_told (some_prime j) (λ fails. none j (lacks_prime j l fails)) in
+      (q, m, w, s)
 
   pub prime_subfield_or_none : FirstOrNone nat_cmp (LacksPrimeSubfield L)
   prime_subfield_or_none =
@@ -115,6 +134,17 @@ module _ (L : Lattice) where
     pub inverse_or_none : FirstOrNone pair_cmp (LacksInverse L)
     inverse_or_none = pair_or_none (LacksInverse L) (length L.rows)
         (λ i j x. M.within i j x.map x.stored) (λ i j li lj. inverse_told i j)
+
+    pub inverses_kept : Never (LacksInverse L) → (i j : ℕ) (m : Map) → Stored L i j m
+        → degree_of (field_at L.rows i) ≡ degree_of (field_at L.rows j)
+        → (n : Map) × HasInverse L i j m n
+    inverses_kept none i j m s same = holds_told (has_inverse_told i j m)
+        (λ fails. none (i, j) (record {
+          map = m;
+          stored = s;
+          isomorphism = same;
+          lacking = λ n h. fails (n, h);
+        }))
 
     -- ---- compositions
     abbrev Open : ℕ → ℕ → ℕ → Map → Type 0
@@ -186,3 +216,10 @@ module _ (L : Lattice) where
           let second = M.within j k x.second x.second_stored in
           (first.0, second.0, first.1))
           (λ i j k li lj lk. intersection_told i j k)
+
+      pub intersections_kept : Never (LacksIntersection L) → (i j k : ℕ) → KeepsIntersection L i j k
+      intersections_kept none i j k a b A B = ⊎_elim
+          (λ (l, w, is). meets_by_degree L C i j k l is a b A B)
+          (λ nowhere. absurd (none (i, j, k) (lacks_by_degree L C i j k a b A B
+          (λ l is. nowhere (l, (M.within l i is.first.0 is.first.1).0, is)))))
+          (some_common i j)

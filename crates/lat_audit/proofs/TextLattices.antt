@@ -1,5 +1,5 @@
 -- The lattice of a text that is a dump of fields and embeddings.
-use Rattle.std.proofs.Common.{◌≡◌, ℕ, List, Result, Ok, Err, sym, ap, ◌∙◌, subst}
+use Rattle.std.proofs.Common.{◌≡◌, ℕ, List, Result, Ok, Err, sym, ◌∙◌, subst}
 use Rattle.std.specs.Prelude.{MatchResult}
 use Rattle.alg_model.specs.Lattices.{Lattice, IsCompatible}
 use Rattle.lat_audit.specs.Dumps.{dump_text}

@@ -1,7 +1,7 @@
 -- The first fault of a text is its verdict.
 use Rattle.std.proofs.Common.{ℕ, List}
 use Rattle.lat_audit.specs.Readings.{Content, Header, IsDump, lattice_of}
-use Rattle.lat_audit.specs.Verdicts.{None, IsReducible, IsWrongImage, HoldsEmbeddings, Judges}
+use Rattle.lat_audit.specs.Verdicts.{None, IsReducible, HoldsEmbeddings, Judges}
 use Rattle.lat_audit.specs.Verdicts.Judges.{bad_text, bad_field as judged_field, bad_map as judged_map, identity, prime_subfield, inverse, transitivity, intersection, no_memory}
 use Rattle.lat_audit.specs.PrivateFaults.{FieldFault, MapFault}
 use Rattle.lat_audit.specs.PrivateReadings.{Stops}

@@ -2,7 +2,7 @@
 --     image_lines images     the lines of maps
 --     content_text c         the text of a content
 --     IsContent c            a content that some dump holds
-use Rattle.std.specs.Prelude.{◌≡◌, ℕ, ◌≤◌, List, [], ◌∷◌, ◌++◌, length, flat_map}
+use Rattle.std.specs.Prelude.{◌≡◌, ℕ, ◌≤◌, List, ◌∷◌, ◌++◌, length, flat_map}
 use Rattle.alg_model.specs.Lattices.{first_edition, Row}
 use Rattle.lat_audit.specs.Dumps.{header_line, fields_line, field_lines, maps_line, map_line, end_line}
 use Rattle.lat_audit.specs.Readings.{Image, Content, IsNextRow, IsNextImage}

@@ -4,7 +4,7 @@
 --     MapFault rows images fault   the first pair whose image is that of no embedding
 --     entry_of m                   a pair of numbers, and its map
 --     AreMapsOf rows images maps   the maps that the images give
-use Rattle.std.specs.Prelude.{◌≡◌, ℕ, ◌<◌, List, length, map, All}
+use Rattle.std.specs.Prelude.{◌≡◌, ◌<◌, List, length, map, All}
 use Rattle.std.specs.Ordering.{nat_cmp}
 use Rattle.alg_model.specs.Maps.{field_values}
 use Rattle.alg_model.specs.Lattices.{Row, field_at, pair_cmp}

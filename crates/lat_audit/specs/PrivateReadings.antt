@@ -9,7 +9,7 @@
 --     IsRising images            the pairs of the images rise
 --     Continues place n text next m rest     what the rest means, the text means
 --     Stops place n text fault     the text has its first bad line, or memory was wanting
-use Rattle.std.specs.Prelude.{◌≡◌, ◌≢◌, ℕ, ◌+◌, ◌-◌, ◌<◌, ◌≤◌, List, [], ◌∷◌, ◌++◌, length, All, AllPairs, Contains, codes, slice_index, Result, Ok, Err}
+use Rattle.std.specs.Prelude.{◌≡◌, ◌≢◌, ℕ, ◌+◌, ◌-◌, ◌<◌, ◌≤◌, List, [], ◌∷◌, ◌++◌, length, All, AllPairs, Contains, codes, slice_index, Result, Err}
 use Rattle.std.specs.List.{join_with_byte}
 use Rattle.std.specs.declared.cmp.Ordering.TheVariants.{Less}
 use Rattle.alg_model.specs.Coefficients.{residues}

@@ -4,7 +4,7 @@
 --     IsWrongImage c pair        the image for the pair is that of no embedding
 --     Lacks.., Breaks..          a rule of compatible lattices is broken at these fields
 --     Judges text verdict        the verdict on a text
-use Rattle.std.specs.Prelude.{◌≡◌, ℕ, ◌<◌, List, length, slice_index, slice_index_or, All, Contains}
+use Rattle.std.specs.Prelude.{◌≡◌, ℕ, ◌<◌, List, length, slice_index, All, Contains}
 use Rattle.std.specs.Ordering.{nat_cmp, ordering_then}
 use Rattle.std.specs.declared.cmp.Ordering.{Ordering}
 use Rattle.std.specs.declared.cmp.Ordering.TheVariants.{Less}

@@ -5,12 +5,13 @@ ghost use Rattle.std.specs.FinMap.{get};
 ghost use Rattle.std.specs.Int.{IsGcd};
 ghost use Rattle.std.specs.Bool.{MatchBool};
 ghost use Rattle.std.specs.Ordering.{nat_cmp};
-ghost use Rattle.alg_model.specs.Maps.{comp, identity_map};
+ghost use Rattle.alg_model.specs.Maps.{degree_of, comp, identity_map};
 ghost use Rattle.alg_model.specs.Lattices.{field_at, pair_cmp, Stored};
 ghost use Rattle.lat_core.specs.SharedRows.{IsBetween};
 ghost use Rattle.lat_audit.specs.Verdicts.{IsFirst, triple_cmp, LacksIdentity, IsPrimeField, LacksPrimeSubfield, HasInverse, LacksInverse, LacksComposition, LacksIntersection};
-ghost use Rattle.lat_audit.specs.PrivateRules.{HasPrimeSubfield, IsOfEdition, KeepsInverse, KeepsComposition, BreaksInverse, BreaksComposition, IsCommonSubfield, HaveOverfield, AreComposed, KeepsIntersection, BreaksIntersection, HoldsMaps, KeepsRules, RuleFault};
+ghost use Rattle.lat_audit.specs.PrivateRules.{HasIdentity, HasPrimeSubfield, IsOfEdition, KeepsInverse, KeepsComposition, BreaksInverse, BreaksComposition, IsCommonSubfield, HaveOverfield, AreComposed, KeepsIntersection, BreaksIntersection, HoldsMaps, KeepsRules, RuleFault};
 
+use crate::compositions::are_composed;
 use crate::faults::Fault;
 use crate::tables::Table;
 use ff_embed::Embedding;
@@ -77,7 +78,7 @@ fn place_of(numbers: &[u32], number: u32) -> Option<usize>
 }
 
 // Whether there is a map from one field to another.
-fn has_map(table: &Table, i: u32, j: u32) -> bool
+pub(crate) fn has_map(table: &Table, i: u32, j: u32) -> bool
     requires first { i < length table.now.rows }
     requires second { j < length table.now.rows }
     ensures { MatchBool result ((m : List (List ℕ)) × Stored table.now i j m)
@@ -202,7 +203,7 @@ fn has_composition(table: &Table, i: u32, k: u32, first: &Embedding, second: &Em
 }
 
 // Whether the composition from i by j to k is stored, if there is one.
-fn keeps_composition(table: &Table, i: u32, j: u32, k: u32) -> bool
+pub(crate) fn keeps_composition(table: &Table, i: u32, j: u32, k: u32) -> bool
     requires first { i < length table.now.rows }
     requires second { j < length table.now.rows }
     requires third { k < length table.now.rows }
@@ -249,13 +250,20 @@ fn without_composition_from(table: &Table, i: u32) -> Option<(u32, u32)>
     None
 }
 
-// The first fields for which a composition isn't stored.
+// The first fields for which a composition isn't stored. All are looked at where leaders don't tell that there are none.
 fn without_composition(table: &Table) -> Option<(u32, u32, u32)>
+    requires maps { HoldsMaps table.now }
+    requires identities { (i : ℕ) → i < length table.now.rows → HasIdentity table.now i }
+    requires inverses { (i j : ℕ) → i < length table.now.rows → j < length table.now.rows
+        → KeepsInverse table.now i j }
     ensures { let L = table.now in MatchOption result
         ((i j k : ℕ) → i < length L.rows → j < length L.rows → k < length L.rows
         → KeepsComposition L i j k)
         (IsFirst triple_cmp (LacksComposition L)) }
 {
+    if are_composed(table) {
+        return None;
+    }
     for i in 0..table.count() {
         if let Some((j, k)) = without_composition_from(table, i) {
             return Some((i, j, k));
@@ -275,14 +283,16 @@ fn gcd(a: u32, b: u32) -> u32
 }
 
 // Whether field l goes into both, and has the degree of their intersection.
-fn is_common_subfield(table: &Table, i: u32, j: u32, l: u32) -> bool
+fn is_common_subfield(table: &Table, i: u32, j: u32, l: u32, degree: u32) -> bool
     requires first { i < length table.now.rows }
     requires second { j < length table.now.rows }
     requires third { l < length table.now.rows }
+    requires degree { IsGcd (degree_of (field_at table.now.rows i))
+        (degree_of (field_at table.now.rows j)) degree }
     ensures { MatchBool result (IsCommonSubfield table.now i j l)
         (¬ IsCommonSubfield table.now i j l) }
 {
-    if table.degree(l) != gcd(table.degree(i), table.degree(j)) {
+    if table.degree(l) != degree {
         return false;
     }
     has_map(table, l, i) && has_map(table, l, j)
@@ -295,8 +305,9 @@ fn have_intersection(table: &Table, i: u32, j: u32) -> bool
     ensures { MatchBool result ((l : ℕ) × IsCommonSubfield table.now i j l)
         ((l : ℕ) → ¬ IsCommonSubfield table.now i j l) }
 {
+    let degree = gcd(table.degree(i), table.degree(j));
     for l in 0..table.count() {
-        if is_common_subfield(table, i, j, l) {
+        if is_common_subfield(table, i, j, l, degree) {
             return true;
         }
     }

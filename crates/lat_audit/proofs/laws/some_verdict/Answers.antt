@@ -3,4 +3,4 @@ use Rattle.lat_audit.proofs.SomeVerdict.{verdict_exists}
 use Rattle.lat_audit.proofs.laws.some_verdict.Goals as goal
 
 pub returns : goal.returns
-returns c = verdict_exists ?
+returns c = verdict_exists

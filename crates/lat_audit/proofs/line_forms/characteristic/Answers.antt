@@ -1,6 +1,6 @@
 -- A word is one number.
-use Rattle.std.proofs.Common.{◌≡◌, ℕ, ◌≤◌, ◌<◌, ◌^◌, Option, Some, None, List, sym, subst, ◌∙◌, ap, arith}
-use Rattle.std.specs.Prelude.{◌≢◌, decimal, Contains, SomeIff, MatchOption, All}
+use Rattle.std.proofs.Common.{◌≡◌, ℕ, ◌<◌, ◌^◌, Option, Some, None, List, sym, subst, ◌∙◌, ap, arith}
+use Rattle.std.specs.Prelude.{◌≢◌, decimal, Contains, SomeIff, MatchOption}
 use Rattle.std.proofs.lemmas.Fmt.{decimal_injective}
 use Rattle.alg_model.specs.Lattices.{first_edition}
 use Rattle.lat_audit.proofs.ReadRows.{characteristic_small}

@@ -1,5 +1,5 @@
 -- The line has the word and the number.
-use Rattle.std.proofs.Common.{◌≡◌, ◌≤◌, [], ◌∷◌, ◌++◌, sym, ap, ◌∙◌, arith}
+use Rattle.std.proofs.Common.{◌≤◌, [], ◌∷◌, ◌++◌, sym, ap, ◌∙◌, arith}
 use Rattle.std.specs.Prelude.{decimal}
 use Rattle.lat_audit.proofs.LineWords.{line_words, line_from_words, behind_word}
 use Rattle.lat_audit.proofs.line_forms.counted.Goals as goal

@@ -1,5 +1,5 @@
 -- The words of a line are those of one image.
-use Rattle.std.proofs.Common.{true, false, refl, sym, subst, codes}
+use Rattle.std.proofs.Common.{true, false, refl, sym, subst}
 use Rattle.lat_audit.specs.Dumps.{map_line}
 use Rattle.lat_audit.specs.Readings as readings
 use Rattle.lat_audit.specs.Readings.{IsNextImage}

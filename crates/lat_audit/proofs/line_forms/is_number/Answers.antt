@@ -1,6 +1,6 @@
 -- A word is one number.
 use Rattle.std.proofs.Common.{◌≡◌, ◌≤◌, sym, ap, ◌∙◌, arith, eq-eqb}
-use Rattle.std.specs.Prelude.{decimal, nat_eq}
+use Rattle.std.specs.Prelude.{decimal}
 use Rattle.std.proofs.lemmas.Bool.{eqb-true}
 use Rattle.std.proofs.lemmas.Fmt.{decimal_injective}
 use Rattle.lat_audit.proofs.line_forms.is_number.Goals as goal

@@ -1,6 +1,5 @@
 -- The pair of the last image decides.
 use Rattle.std.proofs.Common.{sym, subst}
-use Rattle.lat_audit.specs.Readings.{Image}
 use Rattle.lat_audit.specs.PrivateReadings.{IsBefore}
 use Rattle.lat_audit.proofs.ReadRows.{behind_all, behind_last}
 use Rattle.lat_audit.proofs.line_forms.rises.Goals as goal

@@ -1,5 +1,5 @@
 -- The words of a line are those of one row.
-use Rattle.std.proofs.Common.{rules, ◌≡◌, length, arith}
+use Rattle.std.proofs.Common.{rules, ◌≡◌, length}
 use Rattle.std.specs.Prelude.{decimal}
 use Rattle.lat_audit.proofs.ReadRows.{no_row_line, other_number, no_poly, row_read}
 use Rattle.lat_audit.proofs.line_forms.row.Goals as goal

@@ -1,5 +1,5 @@
 -- One more map, and the first image that gives none.
-use Rattle.std.proofs.Common.{rules, ◌≡◌, ℕ, ◌++◌, ◌∷◌, [], sym, ap, subst, ◌∙◌}
+use Rattle.std.proofs.Common.{ℕ, sym, ap, subst}
 use Rattle.alg_model.specs.Lattices.{pair_cmp}
 use Rattle.lat_audit.specs.Verdicts.{IsFirst, IsWrongImage}
 use Rattle.lat_audit.proofs.ReadMaps.{first_wrong, more_maps}

@@ -1,8 +1,8 @@
 -- One section behind the other.
-use Rattle.std.proofs.Common.{rules, ◌≡◌, ◌+◌, ◌<◌, [], length, arith, sym, subst}
-use Rattle.lat_audit.specs.Readings.{Header, MapCount, End, Content, Reading, ended_lines}
-use Rattle.std.proofs.Common.{Err, ℕ, Result}
-use Rattle.lat_audit.specs.PrivateReadings.{Stops, Continues}
+use Rattle.std.proofs.Common.{rules, ◌≡◌, ◌+◌, ◌<◌, length, arith, subst}
+use Rattle.lat_audit.specs.Readings.{Header, MapCount, End, Reading, ended_lines}
+use Rattle.std.proofs.Common.{Err, ℕ}
+use Rattle.lat_audit.specs.PrivateReadings.{Stops}
 use Rattle.lat_audit.proofs.ReadLines.{then_stops, read_to_maps, read_to_end, read_too_far}
 use Rattle.lat_audit.proofs.readings.read.Goals as goal
 

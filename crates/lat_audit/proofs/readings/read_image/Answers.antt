@@ -1,6 +1,6 @@
 -- No line is left.
-use Rattle.std.proofs.Common.{◌≡◌, ℕ}
-use Rattle.lat_audit.specs.Readings.{Place, Content, Map, Behind}
+use Rattle.std.proofs.Common.{◌≡◌}
+use Rattle.lat_audit.specs.Readings.{Content, Map, Behind}
 use Rattle.lat_audit.proofs.ReadLines.{stops_unended}
 use Rattle.lat_audit.proofs.readings.read_image.Goals as goal
 

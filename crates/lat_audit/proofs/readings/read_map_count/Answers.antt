@@ -1,6 +1,6 @@
 -- No line is left.
-use Rattle.std.proofs.Common.{◌≡◌, ℕ}
-use Rattle.lat_audit.specs.Readings.{Place, Content, MapCount, Behind}
+use Rattle.std.proofs.Common.{◌≡◌}
+use Rattle.lat_audit.specs.Readings.{Content, MapCount, Behind}
 use Rattle.lat_audit.proofs.ReadLines.{stops_unended}
 use Rattle.lat_audit.proofs.readings.read_map_count.Goals as goal
 

@@ -1,5 +1,5 @@
 -- One more field.
-use Rattle.std.proofs.Common.{rules, ◌≡◌, ◌+◌, ◌<◌, [], ◌∷◌, ◌++◌, length, arith}
+use Rattle.std.proofs.Common.{rules, ◌≡◌, [], ◌∷◌, ◌++◌}
 use Rattle.lat_audit.specs.Readings.{field_place}
 use Rattle.lat_audit.specs.PrivateReadings.{Stops}
 use Rattle.lat_audit.proofs.ReadLines.{more_rows, no_more_rows}

@@ -1,5 +1,5 @@
 -- One more field, and all of them.
-use Rattle.std.proofs.Common.{rules, ◌≡◌, ◌<◌, ℕ, length, arith}
+use Rattle.std.proofs.Common.{◌<◌, ℕ, arith}
 use Rattle.lat_audit.specs.PrivateRules.{HaveOverfield}
 use Rattle.lat_audit.proofs.RuleOrders.{one_more}
 use Rattle.lat_audit.proofs.rules.common_field.Goals as goal

@@ -1,5 +1,5 @@
 -- One more field.
-use Rattle.std.proofs.Common.{rules, ◌≡◌, ℕ, true, false}
+use Rattle.std.proofs.Common.{rules, ◌≡◌, true}
 use Rattle.lat_audit.specs.Verdicts.{LacksInverse}
 use Rattle.lat_audit.specs.PrivateRules.{KeepsInverse}
 use Rattle.lat_audit.proofs.RuleOrders.{one_more, told_true}

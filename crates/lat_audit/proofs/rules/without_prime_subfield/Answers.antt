@@ -1,5 +1,5 @@
 -- The first field that lacks its prime subfield.
-use Rattle.std.proofs.Common.{rules, ◌≡◌, ◌<◌, ℕ, List, false, None, length, arith}
+use Rattle.std.proofs.Common.{rules, ◌≡◌, ◌<◌, ℕ, List, false, None, length}
 use Rattle.std.specs.FinMap.{get}
 use Rattle.alg_model.specs.Lattices.{Stored}
 use Rattle.lat_audit.specs.Verdicts.{LacksPrimeSubfield}

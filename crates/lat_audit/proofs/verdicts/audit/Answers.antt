@@ -1,5 +1,5 @@
--- The lattice, or the first fault as a verdict.
-use Rattle.std.proofs.Common.{rules, ◌≡◌, sym, subst, List, ℕ}
+-- A lattice is good, and the first fault is the verdict.
+use Rattle.std.proofs.Common.{sym, subst}
 use Rattle.lat_audit.specs.Verdicts.{Judges}
 use Rattle.lat_audit.specs.Verdicts.Judges.{good}
 use Rattle.lat_audit.proofs.TextVerdicts.{fault_judges}

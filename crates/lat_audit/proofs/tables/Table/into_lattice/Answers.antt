@@ -1,5 +1,5 @@
 -- The maps are put in one after the other.
-use Rattle.std.proofs.Common.{rules, ◌≡◌, sym, subst, ◌∙◌}
+use Rattle.std.proofs.Common.{◌≡◌, sym, subst, ◌∙◌}
 use Rattle.std.specs.Prelude.{IfOk}
 use Rattle.alg_model.specs.Lattices.{first_edition, Lattice, IsCompatible}
 use Rattle.lat_core.specs.SharedRows.{with_rows, no_rows}
