@@ -61,8 +61,10 @@ fn verdict_of(fault: Fault) -> AuditVerdict
 
 // The compatible lattice of what a dump holds, or its first fault.
 fn lattice_of(alloc: Global, content: &Content) -> Result<Lattice, Fault>
-    requires { IsContent (record { rows = content.now.rows.items; images = content.now.images.items }) }
-    ensures { let c : readings.Content = record { rows = content.now.rows.items; images = content.now.images.items } in
+    requires { IsContent
+        (record { rows = content.now.rows.items; images = content.now.images.items }) }
+    ensures { let c : readings.Content
+        = record { rows = content.now.rows.items; images = content.now.images.items } in
         MatchResult result (λ L. (L ≡ readings.lattice_of c) × IsCompatible L
         × None (IsReducible c.rows) × None (IsWrongImage c)) (ContentFault c) }
 {

@@ -53,13 +53,15 @@ pub returns-in_err-fields : goal.returns-in_err-fields
 returns-in_err-fields c =
     let held : Content = record { rows = c.args.content.now.rows.items; images = c.args.content.now.images.items } in
     let fault : ContentFault held c.in_err-fields.field-0.0 =
-    bad_field (subst (λ (rs : List Row). FieldFault rs c.in_err-fields.field-0.0) c.as_slice.ensures.value c.in_err-fields.ensures) in
+    bad_field (subst (λ (rs : List Row). FieldFault rs c.in_err-fields.field-0.0)
+    c.as_slice.ensures.value c.in_err-fields.ensures) in
     search rules
 
 pub judge_maps-requires-clause-images : goal.judge_maps-requires-clause-images
 judge_maps-requires-clause-images c =
     let held : Content = record { rows = c.args.content.now.rows.items; images = c.args.content.now.images.items } in
-    let rows : c.as_slice-2.result.now ≡ held.rows = c.as_slice-2.ensures.value ∙ c.in_ok-fields.ensures.0 ∙ c.as_slice.ensures.value in
+    let rows : c.as_slice-2.result.now ≡ held.rows =
+    c.as_slice-2.ensures.value ∙ c.in_ok-fields.ensures.0 ∙ c.as_slice.ensures.value in
     subst (λ (xs : List Image). All (IsImage c.as_slice-2.result.now) xs) (sym c.as_slice-3.ensures.value)
     (subst (λ (rs : List Row). All (IsImage rs) held.images) (sym rows) (are_images held c.requires))
 
@@ -74,23 +76,26 @@ returns-in_err-maps c =
     let fields : c.in_ok-fields.fields.items ≡ held.rows = c.in_ok-fields.ensures.0 ∙ c.as_slice.ensures.value in
     let fault : ContentFault held c.in_err-maps.field-0.0 =
     map_fault held c.as_slice.result.now c.as_slice-2.result.now c.as_slice-3.result.now c.in_err-maps.field-0.0
-    c.as_slice.ensures.value (c.as_slice-2.ensures.value ∙ fields) c.as_slice-3.ensures.value c.in_ok-fields.ensures.1 c.in_err-maps.ensures in
+    c.as_slice.ensures.value (c.as_slice-2.ensures.value ∙ fields) c.as_slice-3.ensures.value
+    c.in_ok-fields.ensures.1 c.in_err-maps.ensures in
     search rules
 
 pub new-requires-clause-within : goal.new-requires-clause-within
 new-requires-clause-within c =
     let held : Content = record { rows = c.args.content.now.rows.items; images = c.args.content.now.images.items } in
     let fields : c.in_ok-fields.fields.items ≡ held.rows = c.in_ok-fields.ensures.0 ∙ c.as_slice.ensures.value in
-    subst (λ (rs : List Row). All (λ (m : MapRow). (m.from < length rs) × (m.into < length rs)) c.in_ok-maps.maps.items) (sym fields)
-    (maps_within held c.requires c.in_ok-maps.maps.items (maps_of held c.as_slice-2.result.now c.as_slice-3.result.now c.in_ok-maps.maps.items
-    (c.as_slice-2.ensures.value ∙ fields) c.as_slice-3.ensures.value c.in_ok-maps.ensures))
+    let maps = maps_of held c.as_slice-2.result.now c.as_slice-3.result.now c.in_ok-maps.maps.items
+    (c.as_slice-2.ensures.value ∙ fields) c.as_slice-3.ensures.value c.in_ok-maps.ensures in
+    subst (λ (rs : List Row). All (λ (m : MapRow). (m.from < length rs) × (m.into < length rs)) c.in_ok-maps.maps.items)
+    (sym fields) (maps_within held c.requires c.in_ok-maps.maps.items maps)
 
 pub new-requires-clause-rising : goal.new-requires-clause-rising
 new-requires-clause-rising c =
     let held : Content = record { rows = c.args.content.now.rows.items; images = c.args.content.now.images.items } in
     let fields : c.in_ok-fields.fields.items ≡ held.rows = c.in_ok-fields.ensures.0 ∙ c.as_slice.ensures.value in
-    maps_rise held c.requires c.in_ok-maps.maps.items (maps_of held c.as_slice-2.result.now c.as_slice-3.result.now c.in_ok-maps.maps.items
-    (c.as_slice-2.ensures.value ∙ fields) c.as_slice-3.ensures.value c.in_ok-maps.ensures)
+    let maps = maps_of held c.as_slice-2.result.now c.as_slice-3.result.now c.in_ok-maps.maps.items
+    (c.as_slice-2.ensures.value ∙ fields) c.as_slice-3.ensures.value c.in_ok-maps.ensures in
+    maps_rise held c.requires c.in_ok-maps.maps.items maps
 
 pub returns-in_err-table : goal.returns-in_err-table
 returns-in_err-table c =
@@ -102,38 +107,43 @@ pub judge_rules-requires-clause-edition : goal.judge_rules-requires-clause-editi
 judge_rules-requires-clause-edition c =
     let held : Content = record { rows = c.args.content.now.rows.items; images = c.args.content.now.images.items } in
     let all : IsJudged held c.in_ok-table.table =
-    judged held c.requires c.as_slice.result.now c.in_ok-fields.fields.items c.as_slice-2.result.now c.as_slice-3.result.now
-    c.in_ok-maps.maps.items c.in_ok-table.table c.as_slice.ensures.value c.in_ok-fields.ensures.0 c.as_slice-2.ensures.value
-    c.as_slice-3.ensures.value c.in_ok-fields.ensures.1 c.in_ok-maps.ensures c.in_ok-table.ensures in
+    judged held c.requires c.as_slice.result.now c.in_ok-fields.fields.items c.as_slice-2.result.now
+    c.as_slice-3.result.now c.in_ok-maps.maps.items c.in_ok-table.table c.as_slice.ensures.value
+    c.in_ok-fields.ensures.0 c.as_slice-2.ensures.value c.as_slice-3.ensures.value c.in_ok-fields.ensures.1
+    c.in_ok-maps.ensures c.in_ok-table.ensures in
     subst IsOfEdition (sym all.lattice) (content_of_edition held c.requires all.fields all.images)
 
 pub judge_rules-requires-clause-maps : goal.judge_rules-requires-clause-maps
 judge_rules-requires-clause-maps c =
     let held : Content = record { rows = c.args.content.now.rows.items; images = c.args.content.now.images.items } in
     let all : IsJudged held c.in_ok-table.table =
-    judged held c.requires c.as_slice.result.now c.in_ok-fields.fields.items c.as_slice-2.result.now c.as_slice-3.result.now
-    c.in_ok-maps.maps.items c.in_ok-table.table c.as_slice.ensures.value c.in_ok-fields.ensures.0 c.as_slice-2.ensures.value
-    c.as_slice-3.ensures.value c.in_ok-fields.ensures.1 c.in_ok-maps.ensures c.in_ok-table.ensures in
+    judged held c.requires c.as_slice.result.now c.in_ok-fields.fields.items c.as_slice-2.result.now
+    c.as_slice-3.result.now c.in_ok-maps.maps.items c.in_ok-table.table c.as_slice.ensures.value
+    c.in_ok-fields.ensures.0 c.as_slice-2.ensures.value c.as_slice-3.ensures.value c.in_ok-fields.ensures.1
+    c.in_ok-maps.ensures c.in_ok-table.ensures in
     subst HoldsMaps (sym all.lattice) (content_holds_maps held c.requires all.fields all.images)
 
 pub returns-in_err-judge_rules : goal.returns-in_err-judge_rules
 returns-in_err-judge_rules c =
     let held : Content = record { rows = c.args.content.now.rows.items; images = c.args.content.now.images.items } in
     let all : IsJudged held c.in_ok-table.table =
-    judged held c.requires c.as_slice.result.now c.in_ok-fields.fields.items c.as_slice-2.result.now c.as_slice-3.result.now
-    c.in_ok-maps.maps.items c.in_ok-table.table c.as_slice.ensures.value c.in_ok-fields.ensures.0 c.as_slice-2.ensures.value
-    c.as_slice-3.ensures.value c.in_ok-fields.ensures.1 c.in_ok-maps.ensures c.in_ok-table.ensures in
+    judged held c.requires c.as_slice.result.now c.in_ok-fields.fields.items c.as_slice-2.result.now
+    c.as_slice-3.result.now c.in_ok-maps.maps.items c.in_ok-table.table c.as_slice.ensures.value
+    c.in_ok-fields.ensures.0 c.as_slice-2.ensures.value c.as_slice-3.ensures.value c.in_ok-fields.ensures.1
+    c.in_ok-maps.ensures c.in_ok-table.ensures in
     let fault : ContentFault held c.in_err-judge_rules.field-0.0 =
-    bad_rule all.fields all.images (subst (λ (L : Lattice). RuleFault L c.in_err-judge_rules.field-0.0) all.lattice c.in_err-judge_rules.ensures) in
+    bad_rule all.fields all.images (subst (λ (L : Lattice). RuleFault L c.in_err-judge_rules.field-0.0)
+    all.lattice c.in_err-judge_rules.ensures) in
     search rules
 
 pub into_lattice-requires : goal.into_lattice-requires
 into_lattice-requires c =
     let held : Content = record { rows = c.args.content.now.rows.items; images = c.args.content.now.images.items } in
     let all : IsJudged held c.in_ok-table.table =
-    judged held c.requires c.as_slice.result.now c.in_ok-fields.fields.items c.as_slice-2.result.now c.as_slice-3.result.now
-    c.in_ok-maps.maps.items c.in_ok-table.table c.as_slice.ensures.value c.in_ok-fields.ensures.0 c.as_slice-2.ensures.value
-    c.as_slice-3.ensures.value c.in_ok-fields.ensures.1 c.in_ok-maps.ensures c.in_ok-table.ensures in
+    judged held c.requires c.as_slice.result.now c.in_ok-fields.fields.items c.as_slice-2.result.now
+    c.as_slice-3.result.now c.in_ok-maps.maps.items c.in_ok-table.table c.as_slice.ensures.value
+    c.in_ok-fields.ensures.0 c.as_slice-2.ensures.value c.as_slice-3.ensures.value c.in_ok-fields.ensures.1
+    c.in_ok-maps.ensures c.in_ok-table.ensures in
     subst IsCompatible (sym all.lattice) (content_compatible held c.requires all.fields all.images
     (subst KeepsRules all.lattice c.in_ok-judge_rules.ensures))
 
@@ -147,10 +157,12 @@ pub returns : goal.returns
 returns c =
     let held : Content = record { rows = c.args.content.now.rows.items; images = c.args.content.now.images.items } in
     let all : IsJudged held c.in_ok-table.table =
-    judged held c.requires c.as_slice.result.now c.in_ok-fields.fields.items c.as_slice-2.result.now c.as_slice-3.result.now
-    c.in_ok-maps.maps.items c.in_ok-table.table c.as_slice.ensures.value c.in_ok-fields.ensures.0 c.as_slice-2.ensures.value
-    c.as_slice-3.ensures.value c.in_ok-fields.ensures.1 c.in_ok-maps.ensures c.in_ok-table.ensures in
+    judged held c.requires c.as_slice.result.now c.in_ok-fields.fields.items c.as_slice-2.result.now
+    c.as_slice-3.result.now c.in_ok-maps.maps.items c.in_ok-table.table c.as_slice.ensures.value
+    c.in_ok-fields.ensures.0 c.as_slice-2.ensures.value c.as_slice-3.ensures.value c.in_ok-fields.ensures.1
+    c.in_ok-maps.ensures c.in_ok-table.ensures in
     let same : c.in_ok-into_lattice.field-0 ≡ lattice_of held = c.in_ok-into_lattice.ensures ∙ all.lattice in
     let compatible : IsCompatible (lattice_of held) =
-    content_compatible held c.requires all.fields all.images (subst KeepsRules all.lattice c.in_ok-judge_rules.ensures) in
+    content_compatible held c.requires all.fields all.images
+    (subst KeepsRules all.lattice c.in_ok-judge_rules.ensures) in
     (same, subst IsCompatible (sym same) compatible, all.fields, all.images)
