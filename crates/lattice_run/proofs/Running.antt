@@ -184,10 +184,10 @@ module _ {threads : Bool} {operations : Operations} (source source' sink sink' :
       delivered r.input DONE (items text) r.unfailed (whole_input MAX_INPUT source.bytes source'.bytes r.input r.fits r.whole)
       (output (Play wanted) (items text) refl r.fits (script, r.spelled, played))
       (subst (λ s. Delivers DONE (items text) s sink' result) same d)
-  ran_output items (Err e) wanted middle script r same played (refused, kept) =
+  ran_output items (Err e) wanted middle script r same played (none, kept) =
       no_memory (λ z. cc)
       (some_taken MAX_INPUT source.bytes source'.bytes r.input (spelled_not_empty r.input script r.spelled) r.fits r.whole)
-      refused r.unfailed (kept ∙ same)
+      none r.unfailed (kept ∙ same)
 
   -- the summary of a generated script, or want of memory for it
   pub ran_summary : {V E : Type 0} (items : V → List ℕ) (written : Result V E)
@@ -198,8 +198,8 @@ module _ {threads : Bool} {operations : Operations} (source source' sink sink' :
   ran_summary items (Ok text) seed fields embeds summary d =
       let (input, unread) = unread_input source.bytes in
       delivered input DONE (items text) refl unread (output (Gen seed fields embeds) (items text) refl tt summary) d
-  ran_summary items (Err e) seed fields embeds summary (refused, kept) =
-      no_memory (λ z. cc) tt refused refl kept
+  ran_summary items (Err e) seed fields embeds summary (none, kept) =
+      no_memory (λ z. cc) tt none refl kept
 
 module _ {threads : Bool} {operations : Operations} (source sink sink' : Stream) (result : ℕ) where
   -- the usage line answers other words
