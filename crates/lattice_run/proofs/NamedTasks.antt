@@ -1,5 +1,5 @@
 -- Which task words name.
-use Rattle.std.proofs.Common.{◌≡◌, ℕ, ◌+◌, ◌≤◌, ◌<◌, ◌^◌, List, [], ◌∷◌, length, refl, ◌∙◌, sym, ap, ap₂, subst, arith, lit<, Option, Some, None, Bool, true, false, inl, inr}
+use Rattle.std.proofs.Common.{◌≡◌, ℕ, ◌+◌, ◌≤◌, ◌<◌, ◌^◌, List, [], ◌∷◌, length, refl, ◌∙◌, sym, ap, arith, lit<, Option, Some, None, Bool, false, inl, inr}
 use Rattle.std.specs.Prelude.{◌⊎◌, ◌≢◌, bytes_eq, codes, decimal, Result, Ok, Err}
 use Rattle.std.specs.Str.Parse.{ParsesUnsigned}
 use Rattle.std.proofs.lemmas.Bool.{cases_lt, cases_Bool, true≢false}

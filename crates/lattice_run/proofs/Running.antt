@@ -21,7 +21,7 @@ use Rattle.lat_audit.specs.declared.verdicts.AuditVerdict.TheVariants.{NoMemory}
 use Rattle.lat_session.specs.Outcomes.{Operations}
 use Rattle.lat_playing.specs.Plays.{IsPlayable}
 use Rattle.lattice_run.specs.declared.run.TheConstants.{MAX_INPUT}
-use Rattle.lattice_run.specs.declared.status.TheConstants.{DONE, NO_COMMAND, BAD_SCRIPT, NO_MEMORY, BAD_DUMP}
+use Rattle.lattice_run.specs.declared.status.TheConstants.{DONE, NO_COMMAND, BAD_SCRIPT, BAD_DUMP}
 use Rattle.lattice_run.specs.declared.tasks.Task.{Task}
 use Rattle.lattice_run.specs.declared.tasks.Output.{Output}
 use Rattle.lattice_run.specs.declared.tasks.Task.TheVariants.{Play, Audit, Gen}

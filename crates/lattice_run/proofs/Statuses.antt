@@ -1,5 +1,5 @@
 -- The headline, from the way that a run leaves.
-use Rattle.std.proofs.Common.{◌≡◌, ◌≢◌, Bool, ℕ, zero, suc, ◌<◌, List, [], ◌∷◌, length, ◌≤◌, ◌+◌, refl, ◌∙◌, sym, ap, subst, arith, inl, inr, lit<, Option, Some, None}
+use Rattle.std.proofs.Common.{◌≡◌, ◌≢◌, Bool, ℕ, zero, suc, List, [], ◌∷◌, length, ◌≤◌, ◌+◌, refl, ◌∙◌, sym, ap, subst, arith, inl, inr, lit<, Option, Some, None}
 use Rattle.std.specs.Prelude.{◌⊎◌, Contains, IfSome}
 use Rattle.std.specs.Io.KnownBytes.{Keeps, Appends}
 use Rattle.std.proofs.KnownBytes.{Keeps-refl}

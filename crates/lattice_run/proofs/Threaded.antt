@@ -1,5 +1,5 @@
 -- What is answered by the schedule may be answered where any order of turns is admitted.
-use Rattle.std.proofs.Common.{Bool, true, false, ℕ, List, Option}
+use Rattle.std.proofs.Common.{true, false, ℕ, List, Option}
 use Rattle.alg_model.specs.Lattices.{first_edition}
 use Rattle.lat_io.specs.Streams.{Stream}
 use Rattle.lat_language.specs.declared.scripts.Script.{Script}

@@ -4,7 +4,7 @@ use Rattle.lat_io.specs.Streams.{stream}
 use Rattle.lat_audit.specs.declared.verdicts.AuditVerdict.TheVariants.{Good}
 use Rattle.lattice_run.specs.declared.status.TheConstants.{DONE}
 use Rattle.lattice_run.specs.PrivateRuns.{Delivers}
-use Rattle.lattice_run.specs.PrivateRuns.DeliversVerdict.{good, fault, refused}
+use Rattle.lattice_run.specs.PrivateRuns.DeliversVerdict.{good}
 use Rattle.lattice_run.proofs.run.answer_verdict.Goals as goal
 
 pub returns-in-Good : goal.returns-in-Good

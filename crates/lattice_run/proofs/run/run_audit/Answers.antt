@@ -1,5 +1,5 @@
 -- Each way out of the reading of a dump.
-use Rattle.std.proofs.Common.{◌∙◌, subst, sym, arith}
+use Rattle.std.proofs.Common.{subst, sym, arith}
 use Rattle.lat_io.specs.Source.{ReadWhole}
 use Rattle.lat_audit.specs.declared.verdict_lines.TheConstants.{MAX_DUMP}
 use Rattle.lattice_run.proofs.Running.{ran_verdict, ran_long_dump, whole_takes, before_takes}
