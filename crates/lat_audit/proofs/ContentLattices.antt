@@ -110,7 +110,8 @@ module _ (c : Content) (is : IsContent c) (fields : None (IsReducible c.rows)) (
       → generator_image c.rows (map_of c.rows (get_or c.images k d)) ≡ (get_or c.images k d).1
   image_back k d l =
       let e : Image = get_or c.images k d in
-      (image_embeds c (are_polys c is) (are_within c is) fields images e.0.0 e.0.1 e.1 (Contains-get_or c.images k d l)).1
+      (image_embeds c (are_polys c is) (are_within c is) fields images e.0.0 e.0.1 e.1
+      (Contains-get_or c.images k d l)).1
 
   lines_back : (xs : List Image)
       → All (λ (x : Image). generator_image c.rows (map_of c.rows x) ≡ x.1) xs

@@ -130,7 +130,8 @@ module _ (c : Content) (is : IsContent c) where
           (λ first. first (ap (λ t. slice_index t 0) (same ∙ made)))
           (λ own.
           let room : length c.rows ≤ 200 = is.few in
-          let once : i ≡ j = made_once i j (omega (arith, inside, room)) (omega (arith, m, room)) (sym own ∙ same ∙ made) in
+          let once : i ≡ j
+          = made_once i j (omega (arith, inside, room)) (omega (arith, m, room)) (sym own ∙ same ∙ made) in
           omega (arith, once, l))
           (own_name i inside)
 
@@ -138,7 +139,8 @@ module _ (c : Content) (is : IsContent c) where
           → row j ≡ prime_row (slice_index first_edition.primes j) → ⊥
       among_primes few e = ⊎_elim
           (λ (low, f). prime_rows.names_differ i j no_row l (let k = primes_counted in omega (arith, k, few))
-          (ap (λ (r : Row). r.name) (prime_at i low ∙ sym f) ∙ same ∙ ap (λ (r : Row). r.name) (e ∙ sym (prime_at j few))))
+          (ap (λ (r : Row). r.name) (prime_at i low ∙ sym f) ∙ same
+          ∙ ap (λ (r : Row). r.name) (e ∙ sym (prime_at j few))))
           (λ new. let behind = new.behind in omega (arith, behind, l, few))
           (which i inside)
 

@@ -30,13 +30,11 @@ pub mod SomeReading
 pub mod SomeFaults
 pub mod SomeRules
 pub mod HeldMaps
-pub mod KeptRows
-pub mod KeptImages
-pub mod KeptContents
-pub mod SomeVerdict
 pub mod ContentFields
 pub mod FirstRows
 pub mod KeptRules
 pub mod RisingEntries
 pub mod ContentLattices
+pub mod TextLattices
 pub mod TextVerdicts
+pub mod SomeVerdict

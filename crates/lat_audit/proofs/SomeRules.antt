@@ -10,7 +10,7 @@ use Rattle.alg_model.specs.Maps.{degree_of, comp, identity_map}
 use Rattle.alg_model.specs.Lattices.{Lattice, Stored, field_at, pair_cmp}
 use Rattle.lat_language.specs.PrivateDecisions.{Decided, same_words}
 use Rattle.lat_audit.specs.Verdicts.{None as Never, triple_cmp, LacksIdentity, LacksPrimeSubfield, HasInverse, LacksInverse, LacksComposition, LacksIntersection}
-use Rattle.lat_audit.specs.PrivateRules.{HoldsMaps, AreComposed, IsCommonSubfield, KeepsComposition, KeepsIntersection}
+use Rattle.lat_audit.specs.PrivateRules.{HasPrimeSubfield, HoldsMaps, AreComposed, IsCommonSubfield, KeepsComposition, KeepsIntersection}
 use Rattle.lat_audit.proofs.RuleMaps.{stored_once}
 use Rattle.lat_audit.proofs.RuleFaults.{are_composed}
 use Rattle.lat_audit.proofs.RuleDegrees.{meets_by_degree, lacks_by_degree, intersection_kept}
@@ -90,10 +90,10 @@ module _ (L : Lattice) where
       (fails_told (some_prime j))
 
   pub prime_subfields_kept : Never (LacksPrimeSubfield L) → (j : ℕ) → j < length L.rows
-      → (q : ℕ) × (m : Map) × (q < length L.edition.primes) × Stored L q j m
+      → HasPrimeSubfield L j
   prime_subfields_kept none j l =
       let (q, w, (e, (m, s))) = holds_told (some_prime j) (λ fails. none j (lacks_prime j l fails)) in
-      (q, m, w, s)
+      record { number = q; map = m; prime = record { within = w; prime = e }; stored = s }
 
   pub prime_subfield_or_none : FirstOrNone nat_cmp (LacksPrimeSubfield L)
   prime_subfield_or_none =

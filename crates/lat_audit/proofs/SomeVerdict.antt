@@ -4,19 +4,17 @@ use Rattle.std.specs.Prelude.{◌≢◌, Contains}
 use Rattle.std.proofs.lemmas.List.{get_or_default}
 use Rattle.alg_model.specs.Lattices.{first_edition, field_at}
 use Rattle.lat_audit.specs.Readings.{ended_lines, Content, Header, Reading, IsDump, lattice_of}
-use Rattle.lat_audit.specs.Verdicts.{None, IsReducible, IsWrongImage, IsPrimeField, HoldsEmbeddings, KeepsIdentities, KeepsPrimeSubfields, KeepsInverses, KeepsCompositions, Judges}
+use Rattle.lat_audit.specs.Verdicts.{None, IsReducible, IsWrongImage, IsPrimeField, LacksIntersection, HoldsEmbeddings, KeepsIdentities, KeepsPrimeSubfields, KeepsInverses, KeepsCompositions, Judges}
 use Rattle.lat_audit.specs.Verdicts.Judges.{good, bad_text, bad_field, bad_map, identity, prime_subfield, inverse, transitivity, intersection}
 use Rattle.lat_audit.specs.Theorems.{TextHasVerdict}
-use Rattle.lat_audit.specs.PrivateRules.{HoldsMaps}
+use Rattle.lat_audit.specs.PrivateRules.{HoldsMaps, KeepsRules}
 use Rattle.lat_audit.specs.declared.verdicts.AuditVerdict.{AuditVerdict}
 use Rattle.lat_audit.specs.declared.verdicts.AuditVerdict.TheVariants.{Good, BadText, BadField, BadMap, BadRule, NoMemory}
-use Rattle.lat_audit.proofs.ReadContents.{read_content}
 use Rattle.lat_audit.proofs.SomeReading.{ArePolys, AreWithin, poly_at, some_reading, dump_sound}
 use Rattle.lat_audit.proofs.SomeFaults.{field_or_none, image_or_none}
 use Rattle.lat_audit.proofs.HeldMaps.{holds_maps}
-use Rattle.lat_audit.proofs.KeptImages.{content_is_dump}
-use Rattle.lat_audit.proofs.KeptContents.{content_dumped}
-use Rattle.lat_audit.proofs.SomeRules.{identity_or_none, prime_subfield_or_none, inverse_or_none, composition_or_none, compositions_kept, intersection_or_none}
+use Rattle.lat_audit.proofs.TextLattices.{kept_dumped}
+use Rattle.lat_audit.proofs.SomeRules.{identity_or_none, identities_kept, prime_subfield_or_none, prime_subfields_kept, inverse_or_none, inverses_kept, composition_or_none, compositions_kept, intersection_or_none, intersections_kept}
 
 abbrev HasVerdict : List ℕ → Type 0
 HasVerdict text = (verdict : AuditVerdict) × (verdict ≢ NoMemory) × Judges text verdict
@@ -47,17 +45,25 @@ module _ (text : List ℕ) (c : Content) (dump : IsDump text c) where
     maps : HoldsMaps (lattice_of c)
     maps = holds_maps c sound.0 sound.1 none_reducible none_wrong
 
+    -- what no field breaks is kept
+    rules_kept : KeepsCompositions text c → None (LacksIntersection (lattice_of c)) → KeepsRules (lattice_of c)
+    rules_kept keeps none =
+        let L = lattice_of c in
+        let composed = compositions_kept L maps keeps.kept in
+        record {
+          identity = identities_kept L keeps.before.before.before.kept;
+          prime_subfield = prime_subfields_kept L keeps.before.before.kept;
+          inverse = λ i j li lj m s same. inverses_kept L maps keeps.before.kept i j m s same;
+          composition = composed.composed;
+          intersection = λ i j k li lj lk. intersections_kept L maps composed none i j k;
+        }
+
     by_intersections : KeepsCompositions text c → HasVerdict text
     by_intersections keeps = ⊎_elim
         (λ ((i, j, k), first). (BadRule 6 i j k, (λ e. cc), intersection c keeps first))
         (λ none.
-        let read = read_content text c dump in (
-          Good (lattice_of c),
-          (λ e. cc),
-          good (content_dumped c read.0 sound.0 sound.1 none_reducible none_wrong keeps.before.before.before.kept
-              keeps.before.before.kept keeps.before.kept keeps.kept none)
-              (read.1 ∙ content_is_dump c read.0 sound.0 sound.1 none_reducible none_wrong),
-        ))
+        let lattice = kept_dumped text c embeddings (rules_kept keeps none) in
+        (Good (lattice_of c), (λ e. cc), good lattice.0 lattice.1))
         (intersection_or_none (lattice_of c) maps (compositions_kept (lattice_of c) maps keeps.kept))
 
     by_compositions : KeepsInverses text c → HasVerdict text

@@ -1,5 +1,5 @@
 -- The first fault of a text is its verdict.
-use Rattle.std.proofs.Common.{◌≡◌, ℕ, List, [], refl, inr}
+use Rattle.std.proofs.Common.{ℕ, List}
 use Rattle.lat_audit.specs.Readings.{Content, Header, IsDump, lattice_of}
 use Rattle.lat_audit.specs.Verdicts.{None, IsReducible, HoldsEmbeddings, Judges}
 use Rattle.lat_audit.specs.Verdicts.Judges.{bad_text, bad_field as judged_field, bad_map as judged_map, identity, prime_subfield, inverse, transitivity, intersection, no_memory}
@@ -12,7 +12,6 @@ use Rattle.lat_audit.specs.PrivateVerdicts.ContentFault.{bad_field, bad_map, bad
 use Rattle.lat_audit.specs.PrivateVerdicts.TextFault.{bad_line, bad_content}
 use Rattle.lat_audit.specs.declared.faults.Fault.{Fault}
 use Rattle.lat_audit.specs.declared.faults.Fault.TheVariants as fault
-use Rattle.lat_audit.specs.declared.verdicts.AuditVerdict.TheVariants as verdict
 
 module _ (text : List ℕ) where
   of_line : (f : Fault) → Stops Header 1 text f → Judges text (verdict_with f)
@@ -69,15 +68,3 @@ module _ (text : List ℕ) where
   pub fault_judges : (f : Fault) → TextFault text f → Judges text (verdict_with f)
   fault_judges f (bad_line stop) = of_line f stop
   fault_judges f (bad_content c dump h) = of_content c dump f h
-
--- and only want of memory is that verdict
-pub memory_fault : (f : Fault) → verdict_with f ≡ verdict.NoMemory → f ≡ fault.NoMemory
-memory_fault (fault.Text line) e = cc
-memory_fault (fault.Field i) e = cc
-memory_fault (fault.Map i j) e = cc
-memory_fault (fault.Rule r i j k) e = cc
-memory_fault fault.NoMemory e = refl
-
--- a text without bytes lacks its first line
-pub empty_stops : Stops Header 1 [] (fault.Text 1)
-empty_stops = inr (λ c e. cc, refl)

@@ -1,8 +1,9 @@
 //! Reading a dump, line by line.
 
-ghost use Rattle.std.specs.Prelude.{◌≡◌, ℕ, ◌+◌, ◌<◌, ◌≤◌, List, [], ◌∷◌, ◌++◌, length, MatchResult};
+ghost use Rattle.std.specs.Prelude.{◌≡◌, ◌≢◌, ℕ, ◌+◌, ◌<◌, ◌≤◌, List, [], ◌∷◌, ◌++◌, length, IfErr, MatchResult};
 ghost use Rattle.alg_model.specs.Lattices.{first_edition, Row};
 ghost use Rattle.lat_core.specs.declared.TheConstants.{MAX_FIELDS};
+ghost use Rattle.lat_audit.specs.declared.faults.Fault.TheVariants.{NoMemory as memory_fault};
 ghost use Rattle.lat_audit.specs.declared.line_forms.TheConstants.{MAX_MAPS};
 ghost use Rattle.lat_audit.specs.Readings.{IsDump, IsNextImage, field_place, map_place, Header, FieldCount, Field, MapCount, Map, End, Behind};
 ghost use Rattle.lat_audit.specs.Readings as readings;
@@ -15,9 +16,11 @@ use crate::line_forms::{field_count, image, is_end, is_header, map_count, row};
 use std::alloc::Global;
 
 fn read_header(lines: &mut Lines) -> Result<(), Fault>
-    ensures { MatchResult result
+    ensures reading { MatchResult result
         (λ _. Continues Header 1 lines.old.text.now FieldCount 2 lines.new.text.now)
         (Stops Header 1 lines.old.text.now) }
+    ensures some { MatchResult result (λ _. 0 < length lines.old.text.now)
+        (λ fault. fault ≢ memory_fault) }
 {
     match lines.next() {
         None => Err(Fault::Text(1)),
@@ -167,9 +170,10 @@ fn read_end(lines: &mut Lines, number: u32) -> Result<(), Fault>
 // What a text holds that is a dump, or its first bad line. Memory is taken for what was read
 // alone: a line for each field and each map, at most as many as are said.
 pub(crate) fn read(alloc: Global, text: &[u8]) -> Result<Content, Fault>
-    ensures { MatchResult result
+    ensures reading { MatchResult result
         (λ c. IsDump text.now (record { rows = c.rows.items; images = c.images.items }))
         (Stops Header 1 text.now) }
+    ensures some { IfErr result (λ fault. fault ≡ memory_fault → 0 < length text.now) }
 {
     let mut lines = Lines { text };
     read_header(&mut lines)?;

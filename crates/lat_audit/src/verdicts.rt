@@ -61,8 +61,10 @@ fn verdict_of(fault: Fault) -> AuditVerdict
 
 // The compatible lattice of what a dump holds, or its first fault.
 fn lattice_of(alloc: Global, content: &Content) -> Result<Lattice, Fault>
-    requires { IsContent (record { rows = content.now.rows.items; images = content.now.images.items }) }
-    ensures { let c : readings.Content = record { rows = content.now.rows.items; images = content.now.images.items } in
+    requires { IsContent
+        (record { rows = content.now.rows.items; images = content.now.images.items }) }
+    ensures { let c : readings.Content
+        = record { rows = content.now.rows.items; images = content.now.images.items } in
         MatchResult result (λ L. (L ≡ readings.lattice_of c) × IsCompatible L
         × None (IsReducible c.rows) × None (IsWrongImage c)) (ContentFault c) }
 {
@@ -73,15 +75,12 @@ fn lattice_of(alloc: Global, content: &Content) -> Result<Lattice, Fault>
     Ok(table.into_lattice(alloc)?)
 }
 
-// The compatible lattice whose dump the text is, or its first fault. An empty text is told before any memory is taken.
+// The compatible lattice whose dump the text is, or its first fault.
 fn judge_text(alloc: Global, text: &[u8]) -> Result<Lattice, Fault>
     ensures verdict { MatchResult result
         (λ L. IsDumped L × (text.now ≡ dump_text L)) (TextFault text.now) }
     ensures some { IfErr result (λ fault. fault ≡ memory_fault → 0 < length text.now) }
 {
-    if text.is_empty() {
-        return Err(Fault::Text(1));
-    }
     let content = read(alloc, text)?;
     lattice_of(alloc, &content)
 }
