@@ -1,2 +1,13 @@
 pub mod Dumps
+pub mod PrivateContents
 pub mod PrivateDumps
+pub mod PrivateFaults
+pub mod PrivateLeaders
+pub mod PrivateReadings
+pub mod PrivateRules
+pub mod PrivateTables
+pub mod PrivateVerdicts
+pub mod Readings
+pub mod Theorems
+pub mod VerdictTexts
+pub mod Verdicts

@@ -1,5 +1,5 @@
 -- What words ask for and an input have an answer, and only one.
-use Rattle.std.proofs.Common.{◌≡◌, Bool, true, false, ℕ, ◌<◌, ◌≤◌, List, length, refl, sym, ap, ap₂, ◌∙◌, subst, arith, inl, inr, Option, Some, None}
+use Rattle.std.proofs.Common.{◌≡◌, ◌≢◌, Bool, true, false, ℕ, ◌≤◌, List, length, refl, sym, ap, ◌∙◌, subst, inl, inr, Option, Some, None}
 use Rattle.std.proofs.lemmas.Bool.{cases_lt}
 use Rattle.alg_model.specs.Lattices.{first_edition}
 use Rattle.alg_compatible.proofs.Editions.{first_is_edition}
@@ -11,25 +11,33 @@ use Rattle.lat_language.specs.declared.commands.Op.TheVariants.{First, Second, T
 use Rattle.lat_language.specs.declared.scripts.Script.{Script}
 use Rattle.lat_core.specs.SharedRows.{map_count}
 use Rattle.lat_language.specs.Texts.{usage_text, bad_line_text, too_long_text, summary_text}
-use Rattle.lat_language.proofs.OneMeaning.{script_unique, fault_unique}
+use Rattle.lat_language.proofs.OneMeaning.{script_unique}
 use Rattle.lat_language.proofs.SomeMeaning.{reading_exists}
 use Rattle.lat_session.specs.Outcomes.{Operations, operations_of, KeepsValues}
 use Rattle.lat_playing.specs.Plays.{IsPlayable}
 use Rattle.lat_playing.proofs.ScriptLaws.{one_transcript, some_transcript, solo_fair}
 use Rattle.lattice_run.specs.declared.run.TheConstants.{MAX_INPUT}
-use Rattle.lattice_run.specs.declared.status.TheConstants.{DONE, NO_COMMAND, BAD_SCRIPT}
+use Rattle.lattice_run.specs.declared.status.TheConstants.{DONE, NO_COMMAND, BAD_SCRIPT, BAD_DUMP}
 use Rattle.lattice_run.specs.declared.tasks.Task.{Task}
 use Rattle.lattice_run.specs.declared.tasks.Output.{Output}
 use Rattle.lattice_run.specs.declared.tasks.Output.TheVariants.{Transcript, SharedTranscript, Dump}
-use Rattle.lattice_run.specs.declared.tasks.Task.TheVariants.{Play, Gen}
+use Rattle.lattice_run.specs.declared.tasks.Task.TheVariants.{Play, Audit, Gen}
 use Rattle.lattice_run.specs.Tasks.{IsProper, Asks}
 use Rattle.lat_audit.specs.Dumps.{dump_text}
+use Rattle.lat_audit.specs.Verdicts.{Judges}
+use Rattle.lat_audit.specs.VerdictTexts.{verdict_text, dump_too_long_text}
+use Rattle.lat_audit.specs.declared.verdict_lines.TheConstants.{MAX_DUMP}
+use Rattle.lat_audit.specs.declared.verdicts.AuditVerdict.{AuditVerdict}
+use Rattle.lat_audit.specs.declared.verdicts.AuditVerdict.TheVariants.{Good, NoMemory}
+use Rattle.lat_audit.proofs.SomeVerdict.{verdict_exists}
+use Rattle.lat_audit.proofs.OneVerdict.{text_has_one_verdict}
 use Rattle.lattice_run.specs.Answers.{IsShared, IsPlayed, IsOutput, Answers}
-use Rattle.lattice_run.specs.Answers.Answers.{usage, too_long, bad_line, output}
+use Rattle.lattice_run.specs.Answers.Answers.{usage, too_long, bad_line, dump_too_long, bad_dump, output}
 use Rattle.lattice_run.specs.Theorems.{InputHasAnswer, InputHasOneAnswer}
 use Rattle.lattice_run.proofs.PlayableScripts.{spelled_playable, generated_playable}
 use Rattle.lattice_run.proofs.Transcribed.{some_final, one_summary, one_dump}
-use Rattle.lattice_run.proofs.Determined.{plays_asked, output_asked, long_output, bad_output}
+use Rattle.lattice_run.proofs.Determined.{good_or_fault, Agree, agree}
+use Rattle.lattice_run.proofs.Determined.Agree.{one, outputs}
 
 -- what the operations of tables give are values
 tables_keep : (first second third : List Polynomial) → IsOpTable first → IsOpTable second
@@ -54,44 +62,23 @@ module _ (operations : Operations) (keeps : KeepsValues operations) where
       let same : script' ≡ script = script_unique input script' script s' s in
       one_played wanted script text other (spelled_playable input script s) t
       (subst (λ (x : Script). IsPlayed false operations wanted x other) same t')
+  one_output Audit input text other proper (L, j, t) (M, k, u) =
+      t ∙ ap verdict_text (text_has_one_verdict input (Good L) (Good M) (λ e. cc) (λ e. cc) j k) ∙ sym u
   one_output (Gen s f m) input text other proper a b =
       one_summary operations (generated s f m) keeps (generated_playable s f m proper.1) text other a b
 
-  -- the outputs of what is asked for
-  same_output : (words : List (List ℕ)) (asked : Option Task) (task task' : Task)
-      (input text other : List ℕ) → Asks words asked → asked ≡ Some task → asked ≡ Some task'
-      → IsOutput false operations task input text → IsOutput false operations task' input other → text ≡ other
-  same_output words asked task task' input text other asks is is' o o' =
-      let same : task' ≡ task = cc in
+  agreed : (words : List (List ℕ)) (asked : Option Task) {input : List ℕ} {s t : ℕ}
+      {text other : List ℕ} → Asks words asked → Agree false false operations asked input s t text other
+      → (s ≡ t) × (text ≡ other)
+  agreed words asked asks (one s t) = (s, t)
+  agreed words asked {input} {text = text} {other = other} asks (outputs s task is o o') =
       let named : Asks words (Some task) = subst (Asks words) is asks in
-      one_output task input text other named.1 o (subst (λ t. IsOutput false operations t input other) same o')
-
-  one : (words : List (List ℕ)) (asked : Option Task) {input : List ℕ} {s t : ℕ}
-      {text other : List ℕ} → Asks words asked → Answers false operations asked input s text
-      → Answers false operations asked input t other → (s ≡ t) × (text ≡ other)
-  one words asked asks (usage e) (usage f) = (refl, refl)
-  one words asked asks (usage e) (too_long p l) = absurd (plays_asked asked p e)
-  one words asked asks (usage e) (bad_line p f line kind b) = absurd (plays_asked asked p e)
-  one words asked asks (usage e) (output task text is f o) = absurd (output_asked asked task is e)
-  one words asked asks (too_long p l) (usage e) = absurd (plays_asked asked p e)
-  one words asked asks (too_long p l) (too_long q m) = (refl, refl)
-  one words asked asks (too_long p l) (bad_line q f line kind b) = absurd (omega arith)
-  one words asked {input = input} asks (too_long p l) (output task text is f o) = absurd (long_output asked (length input) p l f)
-  one words asked asks (bad_line p f line kind b) (usage e) = absurd (plays_asked asked p e)
-  one words asked asks (bad_line p f line kind b) (too_long q l) = absurd (omega arith)
-  one words asked {input = input} asks (bad_line p f line kind b) (bad_line q g line' kind' b') =
-      let both = fault_unique input line line' kind kind' b b' in (refl, ap₂ bad_line_text both.0 both.1)
-  one words asked {input = input} asks (bad_line p f line kind b) (output task text is g o) = absurd (bad_output false operations asked input line kind task text p is b o)
-  one words asked asks (output task text is f o) (usage e) = absurd (output_asked asked task is e)
-  one words asked {input = input} asks (output task text is f o) (too_long p l) = absurd (long_output asked (length input) p l f)
-  one words asked {input = input} asks (output task text is f o) (bad_line p g line kind b) = absurd (bad_output false operations asked input line kind task text p is b o)
-  one words asked {input = input} asks (output task text is f o) (output task' text' is' f' o') =
-      (refl, same_output words asked task task' input text text' asks is is' o o')
+      (s, one_output task input text other named.1 o o')
 
 -- **only one**
 pub answer_unique : InputHasOneAnswer
 answer_unique first second third words asked input s t text other f g h asks a b =
-    one (operations_of first second third) (tables_keep first second third f g h) words asked asks a b
+    agreed (operations_of first second third) (tables_keep first second third f g h) words asked asks (agree a b)
 
 -- ---- some answer
 -- a transcript of the sessions, with threads and without
@@ -125,12 +112,27 @@ module _ (threads : Bool) (operations : Operations) (keeps : KeepsValues operati
     | inr b ↦ (BAD_SCRIPT, bad_line_text b.0 b.1, bad_line tt fits b.0 b.1 b.2)
   ]
 
+  -- the verdict on the input
+  judged_answer : (verdict : AuditVerdict) → length input ≤ MAX_DUMP → verdict ≢ NoMemory
+      → Judges input verdict → Answered (Some Audit)
+  unfolding Answered
+  judged_answer verdict fits given judges = elim (good_or_fault verdict given) [
+    | inl g ↦
+        let (L, is) = g in
+        (DONE, verdict_text (Good L), output Audit (verdict_text (Good L)) refl fits (L, subst (Judges input) is judges, refl))
+    | inr f ↦ (BAD_DUMP, verdict_text verdict, bad_dump refl fits verdict judges f)
+  ]
+
   some : (asked : Option Task) → Asks words asked → Answered asked
   unfolding Answered
   some None asks = (NO_COMMAND, usage_text, usage refl)
   some (Some (Play wanted)) asks = elim (cases_lt MAX_INPUT (length input)) [
     | inl l ↦ (BAD_SCRIPT, too_long_text MAX_INPUT, too_long tt l)
     | inr h ↦ played_answer wanted h
+  ]
+  some (Some Audit) asks = elim (cases_lt MAX_DUMP (length input)) [
+    | inl l ↦ (BAD_SCRIPT, dump_too_long_text MAX_DUMP, dump_too_long refl l)
+    | inr h ↦ let (verdict, given, judges) = verdict_exists input in judged_answer verdict h given judges
   ]
   some (Some (Gen s f m)) asks =
       let f' = some_final operations (generated s f m) keeps (generated_playable s f m asks.1.1) in

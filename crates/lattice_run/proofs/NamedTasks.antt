@@ -1,5 +1,5 @@
 -- Which task words name.
-use Rattle.std.proofs.Common.{◌≡◌, ℕ, ◌+◌, ◌≤◌, ◌<◌, ◌^◌, List, [], ◌∷◌, length, refl, ◌∙◌, sym, ap, ap₂, subst, arith, lit<, Option, Some, None, Bool, true, false, inl, inr}
+use Rattle.std.proofs.Common.{◌≡◌, ℕ, ◌+◌, ◌≤◌, ◌<◌, ◌^◌, List, [], ◌∷◌, length, refl, ◌∙◌, sym, ap, arith, lit<, Option, Some, None, Bool, false, inl, inr}
 use Rattle.std.specs.Prelude.{◌⊎◌, ◌≢◌, bytes_eq, codes, decimal, Result, Ok, Err}
 use Rattle.std.specs.Str.Parse.{ParsesUnsigned}
 use Rattle.std.proofs.lemmas.Bool.{cases_lt, cases_Bool, true≢false}
@@ -11,7 +11,7 @@ use Rattle.lat_language.specs.PrivateDecisions.{decide_number}
 use Rattle.lattice_run.specs.declared.tasks.Task.{Task}
 use Rattle.lattice_run.specs.declared.tasks.Output.{Output}
 use Rattle.lattice_run.specs.declared.tasks.Output.TheVariants.{Transcript, SharedTranscript, Dump}
-use Rattle.lattice_run.specs.declared.tasks.Task.TheVariants.{Play, Gen}
+use Rattle.lattice_run.specs.declared.tasks.Task.TheVariants.{Play, Audit, Gen}
 use Rattle.lattice_run.specs.Tasks.{word_of, IsTask, Asks}
 use Rattle.lattice_run.specs.Theorems.{WordsAsk, WordsAskOnce}
 
@@ -46,12 +46,16 @@ pub word_named : (a : List ℕ) (output : Output) → a ≡ word_of output
     → Asks (a ∷ []) (Some (Play output))
 word_named a output e = (ap (λ t. t ∷ []) e, tt)
 
+pub audit_named : (a : List ℕ) → a ≡ codes "audit" → Asks (a ∷ []) (Some Audit)
+audit_named a e = (ap (λ t. t ∷ []) e, tt)
+
 pub other_word : (a : List ℕ) → (a ≡ codes "solo" → ⊥) → (a ≡ codes "share" → ⊥)
-    → (a ≡ codes "dump" → ⊥) → Asks (a ∷ []) None
-other_word a solo share dump (Play Transcript) named = solo (head_same named.0)
-other_word a solo share dump (Play SharedTranscript) named = share (head_same named.0)
-other_word a solo share dump (Play Dump) named = dump (head_same named.0)
-other_word a solo share dump (Gen s f e) named = let l = ap length named.0 in omega arith
+    → (a ≡ codes "dump" → ⊥) → (a ≡ codes "audit" → ⊥) → Asks (a ∷ []) None
+other_word a solo share dump audit (Play Transcript) named = solo (head_same named.0)
+other_word a solo share dump audit (Play SharedTranscript) named = share (head_same named.0)
+other_word a solo share dump audit (Play Dump) named = dump (head_same named.0)
+other_word a solo share dump audit Audit named = audit (head_same named.0)
+other_word a solo share dump audit (Gen s f e) named = let l = ap length named.0 in omega arith
 
 heads_differ : (x y : ℕ) (xs ys : List ℕ) → x < y → x ∷ xs ≡ y ∷ ys → ⊥
 heads_differ x y xs ys l e = let same : x ≡ y = cc in omega (arith, l)
@@ -59,7 +63,15 @@ heads_differ x y xs ys l e = let same : x ≡ y = cc in omega (arith, l)
 solo_dump : codes "solo" ≡ codes "dump" → ⊥
 solo_dump e = heads_differ 100 115 (117 ∷ 109 ∷ 112 ∷ []) (111 ∷ 108 ∷ 111 ∷ []) (lit< tt) (sym e)
 
+share_audit : codes "share" ≡ codes "audit" → ⊥
+share_audit e = heads_differ 97 115 (117 ∷ 100 ∷ 105 ∷ 116 ∷ []) (104 ∷ 97 ∷ 114 ∷ 101 ∷ []) (lit< tt) (sym e)
+
 -- the words differ
+output_audit : (o : Output) → word_of o ≡ codes "audit" → ⊥
+output_audit Transcript e = let l = ap length e in omega arith
+output_audit SharedTranscript e = share_audit e
+output_audit Dump e = let l = ap length e in omega arith
+
 same_output : (o p : Output) → word_of o ≡ word_of p → o ≡ p
 same_output Transcript Transcript e = refl
 same_output Transcript SharedTranscript e = let l = ap length e in absurd (omega arith)
@@ -87,6 +99,7 @@ module _ (a b c d : List ℕ) where
 
   gen_numbers : (task : Task) → IsTask four task → (s f e : ℕ) × IsGen s f e
   gen_numbers (Play o) named = let l = ap length named.0 in absurd (omega arith)
+  gen_numbers Audit named = let l = ap length named.0 in absurd (omega arith)
   gen_numbers (Gen s f e) named =
       let same : four ≡ codes "gen" ∷ decimal s ∷ decimal f ∷ decimal e ∷ [] = named.0 in
       (s, f, e, record { word = cc; seed = cc; fields = cc; embeds = cc; small = named.1.0; sizes = named.1.1 })
@@ -122,12 +135,18 @@ module _ (a b c d : List ℕ) where
 other_count : (words : List (List ℕ)) → (length words ≡ 1 → ⊥) → (length words ≡ 4 → ⊥)
     → Asks words None
 other_count words one many (Play o) named = one (ap length named.0)
+other_count words one many Audit named = one (ap length named.0)
 other_count words one many (Gen s f e) named = many (ap length named.0)
 
 -- ---- one task, or none
 same_task : (words : List (List ℕ)) (task other : Task) → IsTask words task → IsTask words other
     → task ≡ other
 same_task words (Play o) (Play p) a b = ap Play (same_output o p (head_same (sym a.0 ∙ b.0)))
+same_task words (Play o) Audit a b = absurd (output_audit o (head_same (sym a.0 ∙ b.0)))
+same_task words Audit (Play o) a b = absurd (output_audit o (head_same (sym b.0 ∙ a.0)))
+same_task words Audit Audit a b = refl
+same_task words Audit (Gen s f e) a b = let l = ap length (sym a.0 ∙ b.0) in absurd (omega arith)
+same_task words (Gen s f e) Audit a b = let l = ap length (sym a.0 ∙ b.0) in absurd (omega arith)
 same_task words (Play o) (Gen s f e) a b = let l = ap length (sym a.0 ∙ b.0) in absurd (omega arith)
 same_task words (Gen s f e) (Play o) a b = let l = ap length (sym a.0 ∙ b.0) in absurd (omega arith)
 same_task words (Gen s f e) (Gen t g i) a b =
@@ -164,7 +183,10 @@ one_asked a = elim (same_or_not a (codes "solo")) [
     | inl e ↦ (Some (Play SharedTranscript), word_named a SharedTranscript e)
     | inr share ↦ elim (same_or_not a (codes "dump")) [
       | inl e ↦ (Some (Play Dump), word_named a Dump e)
-      | inr dump ↦ (None, other_word a solo share dump)
+      | inr dump ↦ elim (same_or_not a (codes "audit")) [
+        | inl e ↦ (Some Audit, audit_named a e)
+        | inr audit ↦ (None, other_word a solo share dump audit)
+      ]
     ]
   ]
 ]

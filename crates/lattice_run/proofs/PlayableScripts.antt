@@ -1,9 +1,8 @@
 -- A script that bytes spell can be played: its commands are proper, and there are not too many. So
 -- can a generated script.
-use Rattle.std.proofs.Common.{ℕ, List, [], ◌∷◌, ◌≤◌, ◌^◌, arith}
+use Rattle.std.proofs.Common.{ℕ, List, [], ◌∷◌, ◌^◌, arith}
 use Rattle.std.specs.Prelude.{All, codes}
 use Rattle.std.proofs.lemmas.List.Elements.{All-head, All-tail, All-weaker}
-use Rattle.lat_history.specs.declared.TheConstants.{MAX_ROOM}
 use Rattle.lat_language.specs.declared.commands.Command.{Command}
 use Rattle.lat_language.specs.declared.commands.Command.TheVariants as command
 use Rattle.lat_language.specs.declared.scripts.Script.{Script}

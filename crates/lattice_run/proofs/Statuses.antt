@@ -1,5 +1,5 @@
 -- The headline, from the way that a run leaves.
-use Rattle.std.proofs.Common.{◌≡◌, ◌≢◌, Bool, ℕ, zero, suc, ◌<◌, List, [], ◌∷◌, length, ◌≤◌, ◌+◌, ◌∙◌, sym, ap, subst, arith, inl, inr, lit<, Option, Some, None}
+use Rattle.std.proofs.Common.{◌≡◌, ◌≢◌, Bool, ℕ, zero, suc, List, [], ◌∷◌, length, ◌≤◌, ◌+◌, refl, ◌∙◌, sym, ap, subst, arith, inl, inr, lit<, Option, Some, None}
 use Rattle.std.specs.Prelude.{◌⊎◌, Contains, IfSome}
 use Rattle.std.specs.Io.KnownBytes.{Keeps, Appends}
 use Rattle.std.proofs.KnownBytes.{Keeps-refl}
@@ -9,42 +9,51 @@ use Rattle.lat_io.specs.Sink.{AppendsPart}
 use Rattle.lat_io.specs.Source.{ReadWhole, TakesSome}
 use Rattle.lat_io.specs.Streams.{Stream}
 use Rattle.lat_session.specs.Outcomes.{Operations}
-use Rattle.lattice_run.specs.declared.status.TheConstants.{DONE, NO_COMMAND, BAD_SCRIPT, READ_FAILED, WRITE_FAILED, NO_MEMORY}
+use Rattle.lattice_run.specs.declared.status.TheConstants.{DONE, NO_COMMAND, BAD_SCRIPT, READ_FAILED, WRITE_FAILED, NO_MEMORY, BAD_DUMP}
 use Rattle.lattice_run.specs.declared.tasks.Task.{Task}
 use Rattle.lattice_run.specs.Tasks.{Asks, limit}
 use Rattle.lattice_run.specs.Answers.{IsOutput, Answers, IsInput, TakesInput}
 use Rattle.lattice_run.specs.Headline.{Headline}
-use Rattle.lattice_run.specs.Answers.Answers.{usage, too_long, bad_line, output}
+use Rattle.lattice_run.specs.Answers.Answers.{usage, too_long, bad_line, dump_too_long, bad_dump, output}
 use Rattle.lattice_run.specs.PrivateRuns.{Ran}
 use Rattle.lattice_run.specs.PrivateRuns.Ran.{delivered, unread, no_memory}
 use Rattle.lattice_run.specs.PrivateRuns.Delivers.{whole, part}
-use Rattle.lattice_run.proofs.Determined.{plays_asked, output_asked, status_unique, unread_answer}
+use Rattle.lattice_run.proofs.Determined.{status_unique, unread_answer}
 use Rattle.lattice_run.proofs.Running.{nothing_past}
 
 -- ---- the statuses of answers
-answer_below : {threads : Bool} {operations : Operations} {asked : Option Task} {input : List ℕ} {status : ℕ} {text : List ℕ}
-    → Answers threads operations asked input status text → status < READ_FAILED
-answer_below (usage e) = lit< tt
-answer_below (too_long p l) = lit< tt
-answer_below (bad_line p f line kind b) = lit< tt
-answer_below (output task text is f o) = lit< tt
-
-answered_below : (r : ℕ) → Contains (DONE ∷ NO_COMMAND ∷ BAD_SCRIPT ∷ []) r → r < READ_FAILED
-answered_below r (zero, within, at) = let e : DONE ≡ r = at in omega arith
-answered_below r (suc zero, within, at) = let e : NO_COMMAND ≡ r = at in omega arith
-answered_below r (suc (suc zero), within, at) = let e : BAD_SCRIPT ≡ r = at in omega arith
-answered_below r (suc (suc (suc k)), within, at) = absurd (omega (arith, within))
-
 Listed : ℕ → Type 0
-Listed r = Contains (DONE ∷ NO_COMMAND ∷ BAD_SCRIPT ∷ READ_FAILED ∷ WRITE_FAILED ∷ NO_MEMORY ∷ []) r
+Listed r = Contains (DONE ∷ NO_COMMAND ∷ BAD_SCRIPT ∷ READ_FAILED ∷ WRITE_FAILED ∷ NO_MEMORY ∷ BAD_DUMP ∷ []) r
 
-answer_listed : {threads : Bool} {operations : Operations} {asked : Option Task} {input : List ℕ} {status : ℕ} {text : List ℕ} (r : ℕ)
-    → Answers threads operations asked input status text → r ≡ status → Listed r
-unfolding Listed
-answer_listed r (usage none) e = (1, lit< tt, sym e)
-answer_listed r (too_long p l) e = (2, lit< tt, sym e)
-answer_listed r (bad_line p f line kind b) e = (2, lit< tt, sym e)
-answer_listed r (output task text is f o) e = (0, lit< tt, sym e)
+OfAnswer : ℕ → Type 0
+OfAnswer r = Contains (DONE ∷ NO_COMMAND ∷ BAD_SCRIPT ∷ BAD_DUMP ∷ []) r
+
+answer_status : {threads : Bool} {operations : Operations} {asked : Option Task} {input : List ℕ} {status : ℕ} {text : List ℕ}
+    → Answers threads operations asked input status text → OfAnswer status
+unfolding OfAnswer
+answer_status (usage e) = (1, lit< tt, refl)
+answer_status (too_long p l) = (2, lit< tt, refl)
+answer_status (bad_line p f line kind b) = (2, lit< tt, refl)
+answer_status (dump_too_long a l) = (2, lit< tt, refl)
+answer_status (bad_dump a f v j w) = (3, lit< tt, refl)
+answer_status (output task text is f o) = (0, lit< tt, refl)
+
+answer_listed : (r : ℕ) → OfAnswer r → Listed r
+unfolding OfAnswer Listed
+answer_listed r (zero, within, at) = (0, lit< tt, at)
+answer_listed r (suc zero, within, at) = (1, lit< tt, at)
+answer_listed r (suc (suc zero), within, at) = (2, lit< tt, at)
+answer_listed r (suc (suc (suc zero)), within, at) = (6, lit< tt, at)
+answer_listed r (suc (suc (suc (suc k))), within, at) = absurd (omega (arith, within))
+
+-- none of them is that of a failure
+not_failure : (r : ℕ) → OfAnswer r → READ_FAILED ≤ r → r ≤ NO_MEMORY → ⊥
+unfolding OfAnswer
+not_failure r (zero, within, at) l h = let e : DONE ≡ r = at in omega arith
+not_failure r (suc zero, within, at) l h = let e : NO_COMMAND ≡ r = at in omega arith
+not_failure r (suc (suc zero), within, at) l h = let e : BAD_SCRIPT ≡ r = at in omega arith
+not_failure r (suc (suc (suc zero)), within, at) l h = let e : BAD_DUMP ≡ r = at in omega arith
+not_failure r (suc (suc (suc (suc k))), within, at) l h = absurd (omega (arith, within))
 
 -- ---- what is known of the input
 whole_read : (most : Option ℕ) (input : List ℕ) (left left' : Option (List ℕ))
@@ -71,7 +80,7 @@ module _ (threads : Bool) (operations : Operations) (words : List (List ℕ)) (a
       × IfSome (limit asked) (λ most. ReadWhole source.bytes source'.bytes input)
       × IsOutput threads operations task input text × Appends sink.bytes sink'.bytes text
 
-  -- what statuses 0, 2 and 3 say
+  -- what statuses 0, 2, 3 and 7 say
   Answered : ℕ → Type 0
   Answered status = (input : List ℕ) × (text : List ℕ)
       × IsInput (limit asked) input source.bytes source'.bytes
@@ -101,6 +110,8 @@ module _ (threads : Bool) (operations : Operations) (words : List (List ℕ)) (a
   done_answer i (usage none) e h = absurd (omega arith)
   done_answer i (too_long p l) e h = absurd (omega arith)
   done_answer i (bad_line p f line kind b) e h = absurd (omega arith)
+  done_answer i (dump_too_long a l) e h = absurd (omega arith)
+  done_answer i (bad_dump a f v j w) e h = absurd (omega arith)
   done_answer {input = input} i (output task text is f o) e h =
       (task, input, text, is, whole_read (limit asked) input source.bytes source'.bytes f i, o, h)
 
@@ -110,43 +121,44 @@ module _ (threads : Bool) (operations : Operations) (words : List (List ℕ)) (a
   done (unread reads e r k) z = absurd (omega arith)
   done (no_memory named t e r k) z = absurd (omega arith)
 
-  answered : Ran threads operations asked source source' sink sink' result → result < READ_FAILED → Answered result
+  answered : Ran threads operations asked source source' sink sink' result → OfAnswer result → Answered result
   unfolding Answered
-  answered (delivered input status text u i a (whole e w h)) below =
+  answered (delivered input status text u i a (whole e w h)) of =
       (input, text, i, subst (λ s. Answers threads operations asked input s text) (sym e) a, h)
-  answered (delivered input status text u i a (part e w h)) below = absurd (omega arith)
-  answered (unread reads e r k) below = absurd (omega arith)
-  answered (no_memory named t e r k) below = absurd (omega arith)
+  answered (delivered input status text u i a (part e w h)) of = absurd (not_failure result of (omega arith) (omega arith))
+  answered (unread reads e r k) of = absurd (not_failure result of (omega arith) (omega arith))
+  answered (no_memory named t e r k) of = absurd (not_failure result of (omega arith) (omega arith))
 
   -- what was delivered whole has the status of an answer
   not_answered : {input : List ℕ} {status : ℕ} {text : List ℕ} → Answers threads operations asked input status text
-      → result ≡ status → READ_FAILED ≤ result → ⊥
-  not_answered {status = status} a e z = absurd (let b : status < READ_FAILED = answer_below a in omega arith)
+      → result ≡ status → READ_FAILED ≤ result → result ≤ NO_MEMORY → ⊥
+  not_answered a e l h = not_failure result (subst OfAnswer (sym e) (answer_status a)) l h
 
   read_failed : Ran threads operations asked source source' sink sink' result → result ≡ READ_FAILED → ReadFailed
   unfolding ReadFailed
-  read_failed (delivered input status text u i a (whole e w h)) z = absurd (not_answered a e (omega arith))
+  read_failed (delivered input status text u i a (whole e w h)) z = absurd (not_answered a e (omega arith) (omega arith))
   read_failed (delivered input status text u i a (part e w h)) z = absurd (omega arith)
   read_failed (unread reads e r k) z = (reads, r, kept sink sink' k)
   read_failed (no_memory named t e r k) z = absurd (omega arith)
 
   write_failed : Ran threads operations asked source source' sink sink' result → result ≡ WRITE_FAILED → WriteFailed
   unfolding WriteFailed
-  write_failed (delivered input status text u i a (whole e w h)) z = absurd (not_answered a e (omega arith))
+  write_failed (delivered input status text u i a (whole e w h)) z = absurd (not_answered a e (omega arith) (omega arith))
   write_failed (delivered input status text u i a (part e w h)) z = (w, input, status, text, i, a, h)
   write_failed (unread reads e r k) z = absurd (omega arith)
   write_failed (no_memory named t e r k) z = absurd (omega arith)
 
   memory_refused : Ran threads operations asked source source' sink sink' result → result ≡ NO_MEMORY → MemoryRefused
   unfolding MemoryRefused
-  memory_refused (delivered input status text u i a (whole e w h)) z = absurd (not_answered a e (omega arith))
+  memory_refused (delivered input status text u i a (whole e w h)) z = absurd (not_answered a e (omega arith) (omega arith))
   memory_refused (delivered input status text u i a (part e w h)) z = absurd (omega arith)
   memory_refused (unread reads e r k) z = absurd (omega arith)
   memory_refused (no_memory named t e r k) z = (named, t, kept sink sink' k)
 
   statuses : Ran threads operations asked source source' sink sink' result → Listed result
   unfolding Listed
-  statuses (delivered input status text u i a (whole e w h)) = answer_listed result a e
+  statuses (delivered input status text u i a (whole e w h)) =
+      answer_listed result (subst OfAnswer (sym e) (answer_status a))
   statuses (delivered input status text u i a (part e w h)) = (4, lit< tt, sym e)
   statuses (unread reads e r k) = (3, lit< tt, sym e)
   statuses (no_memory named t e r k) = (5, lit< tt, sym e)
@@ -166,10 +178,8 @@ module _ (threads : Bool) (operations : Operations) (words : List (List ℕ)) (a
 
   other_words : Ran threads operations asked source source' sink sink' result → asked ≡ None
       → (Rose sink.faults sink'.faults → ⊥) → result ≡ NO_COMMAND
-  other_words (delivered input status text u i (usage o) (whole e w h)) none r = e
-  other_words (delivered input status text u i (too_long p l) (whole e w h)) none r = absurd (plays_asked asked p none)
-  other_words (delivered input status text u i (bad_line p f line kind b) (whole e w h)) none r = absurd (plays_asked asked p none)
-  other_words (delivered input status text u i (output task t is f o) (whole e w h)) none r = absurd (output_asked asked task is none)
+  other_words (delivered input status text u i a (whole e w h)) none r =
+      e ∙ status_unique {beside = threads} a (usage none)
   other_words (delivered input status text u i a (part e w h)) none r = absurd (r (one_more_rose sink.faults sink'.faults w))
   other_words (unread reads e f k) none r = absurd (reads (ap limit none))
   other_words (no_memory named t e f k) none r = absurd (named none)
@@ -196,12 +206,12 @@ module _ (threads : Bool) (operations : Operations) (words : List (List ℕ)) (a
   pub headline : Asks words asked → Ran threads operations asked source source' sink sink' result
       → TakesInput (limit asked) source.bytes source'.bytes
       → Headline threads operations words source source' sink sink' result
-  unfolding Done Answered ReadFailed MemoryRefused WriteFailed Listed
+  unfolding Done Answered ReadFailed MemoryRefused WriteFailed Listed OfAnswer
   headline asks ran taken = record {
     asked = asked;
     asks = asks;
     done = λ e. done ran e;
-    answered = λ c. answered ran (answered_below result c);
+    answered = λ c. answered ran c;
     read_failed = λ e. read_failed ran e;
     write_failed = λ e. write_failed ran e;
     no_memory = λ e. memory_refused ran e;

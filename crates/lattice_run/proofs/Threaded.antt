@@ -1,5 +1,5 @@
--- What is answered without threads may be answered with them.
-use Rattle.std.proofs.Common.{Bool, true, false, ℕ, List, Option}
+-- What is answered by the schedule may be answered where any order of turns is admitted.
+use Rattle.std.proofs.Common.{true, false, ℕ, List, Option}
 use Rattle.alg_model.specs.Lattices.{first_edition}
 use Rattle.lat_io.specs.Streams.{Stream}
 use Rattle.lat_language.specs.declared.scripts.Script.{Script}
@@ -8,9 +8,9 @@ use Rattle.lat_playing.proofs.ScriptLaws.{solo_fair}
 use Rattle.lattice_run.specs.declared.tasks.Task.{Task}
 use Rattle.lattice_run.specs.declared.tasks.Output.{Output}
 use Rattle.lattice_run.specs.declared.tasks.Output.TheVariants.{Transcript, SharedTranscript, Dump}
-use Rattle.lattice_run.specs.declared.tasks.Task.TheVariants.{Play, Gen}
+use Rattle.lattice_run.specs.declared.tasks.Task.TheVariants.{Play, Audit, Gen}
 use Rattle.lattice_run.specs.Answers.{IsPlayed, IsOutput}
-use Rattle.lattice_run.specs.Answers.Answers.{usage, too_long, bad_line, output}
+use Rattle.lattice_run.specs.Answers.Answers.{usage, too_long, bad_line, dump_too_long, bad_dump, output}
 use Rattle.lattice_run.specs.PrivateRuns.{Ran}
 use Rattle.lattice_run.specs.PrivateRuns.Ran.{delivered, unread, no_memory}
 use Rattle.lattice_run.specs.Theorems.{AnswerIsOneWithThreads}
@@ -27,13 +27,16 @@ output_with : (operations : Operations) (task : Task) (input text : List ℕ)
     → IsOutput false operations task input text → IsOutput true operations task input text
 output_with operations (Play wanted) input text (script, s, p) =
     (script, s, played_with operations wanted script text p)
+output_with operations Audit input text o = o
 output_with operations (Gen s f m) input text o = o
 
--- **an answer without threads is one with threads**
+-- **an answer by the schedule is one where any order is admitted**
 pub answer_with_threads : AnswerIsOneWithThreads
 answer_with_threads operations asked input status text (usage e) = usage e
 answer_with_threads operations asked input status text (too_long p l) = too_long p l
 answer_with_threads operations asked input status text (bad_line p f line kind b) = bad_line p f line kind b
+answer_with_threads operations asked input status text (dump_too_long a l) = dump_too_long a l
+answer_with_threads operations asked input status text (bad_dump a f v j w) = bad_dump a f v j w
 answer_with_threads operations asked input status text (output task t is f o) =
     output task t is f (output_with operations task input t o)
 

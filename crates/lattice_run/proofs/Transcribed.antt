@@ -1,6 +1,6 @@
 -- The lines of a play and the summary are the transcript of its script; the summary alone, and the
 -- dump of the lattice, are those of its script.
-use Rattle.std.proofs.Common.{◌≡◌, Bool, ℕ, List, [], ◌++◌, length, refl, sym, ap, ap₂, ◌∙◌, subst}
+use Rattle.std.proofs.Common.{◌≡◌, Bool, ℕ, List, [], ◌++◌, length, sym, ap, ap₂, ◌∙◌, subst}
 use Rattle.alg_model.specs.Lattices.{Lattice, first_edition}
 use Rattle.ff_poly.specs.Polynomial.{Polynomial}
 use Rattle.lat_io.specs.Streams.{Stream}
@@ -13,7 +13,7 @@ use Rattle.lat_language.specs.Texts.{summary_text}
 use Rattle.lat_session.specs.Outcomes.{Operations, operations_of, KeepsValues}
 use Rattle.lat_history.specs.Books.{History}
 use Rattle.lat_playing.specs.declared.plays.Performance.{Performance}
-use Rattle.lat_playing.specs.Worlds.{World, IsSolo}
+use Rattle.lat_playing.specs.Worlds.{World}
 use Rattle.lat_playing.specs.Transcripts.{sessions_text, IsText, IsTranscript, IsFair}
 use Rattle.lat_playing.specs.Plays.{IsPlayable, Performs, PerformsFairly}
 use Rattle.lat_playing.proofs.ScriptLaws.{one_solo, some_transcript}

@@ -1,7 +1,7 @@
 -- The headline: what a run of the program does, from its words, its source and its sink, and the
--- three operations that it was given; `threads` says whether it plays the sessions of `share` on
--- threads. A source and a sink are their bytes, where they tell them, and their counts of faults
--- (`Stream`); with a prime they are those after the run.
+-- three operations that it was given; `threads` says whether any order of the sessions' turns is
+-- admitted for `share`, or only that of the schedule. A source and a sink are their bytes, where
+-- they tell them, and their counts of faults (`Stream`); with a prime they are those after the run.
 use Rattle.std.specs.Prelude.{◌≡◌, ◌≢◌, ◌⊎◌, Bool, ℕ, List, [], ◌∷◌, Contains, Option, Some, None, IfSome}
 use Rattle.std.specs.Io.KnownBytes.{Keeps, Appends}
 use Rattle.lat_io.specs.Faults.{one_more, Rose}
@@ -9,7 +9,7 @@ use Rattle.lat_io.specs.Sink.{AppendsPart}
 use Rattle.lat_io.specs.Source.{ReadWhole, TakesSome}
 use Rattle.lat_io.specs.Streams.{Stream}
 use Rattle.lat_session.specs.Outcomes.{Operations}
-use Rattle.lattice_run.specs.declared.status.TheConstants.{DONE, NO_COMMAND, BAD_SCRIPT, READ_FAILED, WRITE_FAILED, NO_MEMORY}
+use Rattle.lattice_run.specs.declared.status.TheConstants.{DONE, NO_COMMAND, BAD_SCRIPT, READ_FAILED, WRITE_FAILED, NO_MEMORY, BAD_DUMP}
 use Rattle.lattice_run.specs.declared.tasks.Task.{Task}
 use Rattle.lattice_run.specs.Tasks.{Asks, limit}
 use Rattle.lattice_run.specs.Answers.{IsOutput, Answers, IsInput, TakesInput}
@@ -25,8 +25,8 @@ pub record Headline (threads : Bool) (operations : Operations) (words : List (Li
       × (asked ≡ Some task) × IfSome (limit asked) (λ most.
       ReadWhole source.bytes source'.bytes input) × IsOutput threads operations task input text
       × Appends sink.bytes sink'.bytes text
-  -- Statuses 0, 2 and 3: the answer that is due, and its text was appended.
-  pub answered : Contains (DONE ∷ NO_COMMAND ∷ BAD_SCRIPT ∷ []) status
+  -- Statuses 0, 2, 3 and 7: the answer that is due, and its text was appended.
+  pub answered : Contains (DONE ∷ NO_COMMAND ∷ BAD_SCRIPT ∷ BAD_DUMP ∷ []) status
       → (input : List ℕ) × (text : List ℕ)
       × IsInput (limit asked) input source.bytes source'.bytes
       × Answers threads operations asked input status text × Appends sink.bytes sink'.bytes text
@@ -45,8 +45,9 @@ pub record Headline (threads : Bool) (operations : Operations) (words : List (Li
       × IfSome (limit asked) (TakesSome source.bytes source'.bytes)
       × Keeps sink.bytes sink'.bytes
   -- There is no other status.
-  pub statuses :
-      Contains (DONE ∷ NO_COMMAND ∷ BAD_SCRIPT ∷ READ_FAILED ∷ WRITE_FAILED ∷ NO_MEMORY ∷ []) status
+  pub statuses : Contains
+      (DONE ∷ NO_COMMAND ∷ BAD_SCRIPT ∷ READ_FAILED ∷ WRITE_FAILED ∷ NO_MEMORY ∷ BAD_DUMP ∷ [])
+      status
   -- A read that failed is answered by 4, and a write that failed by 5, unless its count of faults
   -- is at the last value.
   pub reads : status ≢ READ_FAILED → source'.faults ≡ source.faults

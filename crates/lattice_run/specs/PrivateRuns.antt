@@ -12,14 +12,17 @@ use Rattle.lat_language.specs.declared.scripts.Script.{Script}
 use Rattle.lat_language.specs.Grammar.{Spells, LeadsToScript}
 use Rattle.lat_language.specs.Texts.{summary_text}
 use Rattle.lat_history.specs.Books.{History}
+use Rattle.lat_audit.specs.VerdictTexts.{verdict_text}
+use Rattle.lat_audit.specs.declared.verdicts.AuditVerdict.{AuditVerdict}
+use Rattle.lat_audit.specs.declared.verdicts.AuditVerdict.TheVariants.{Good, NoMemory}
 use Rattle.lat_session.specs.Outcomes.{Operations}
 use Rattle.lattice_run.specs.declared.run.TheConstants.{MAX_INPUT}
-use Rattle.lattice_run.specs.declared.status.TheConstants.{DONE, READ_FAILED, WRITE_FAILED, NO_MEMORY}
+use Rattle.lattice_run.specs.declared.status.TheConstants.{DONE, READ_FAILED, WRITE_FAILED, NO_MEMORY, BAD_DUMP}
 use Rattle.lattice_run.specs.declared.tasks.Task.{Task}
 use Rattle.lattice_run.specs.declared.tasks.Output.{Output}
 use Rattle.lattice_run.specs.declared.tasks.Task.TheVariants.{Play}
 use Rattle.lattice_run.specs.Tasks.{limit}
-use Rattle.lattice_run.specs.Answers.{Answers, IsInput}
+use Rattle.lattice_run.specs.Answers.{IsFault, Answers, IsInput}
 
 -- the summary of the lattice after a history was appended
 abbrev pub AddsSummary : History → List ℕ → List ℕ → Type 0
@@ -52,6 +55,15 @@ pub data AnswersInput (operations : Operations) (wanted : Output) (input : List 
       → AnswersInput operations wanted input sink sink' result
   unanswered : NeedsMemory input → result ≡ NO_MEMORY → sink' ≡ sink
       → AnswersInput operations wanted input sink sink' result
+
+-- The line of a verdict was delivered, or memory was refused.
+pub data DeliversVerdict (verdict : AuditVerdict) (sink sink' : Stream) (result : ℕ) : Type 0 where
+  good : (L : Lattice) → verdict ≡ Good L → Delivers DONE (verdict_text verdict) sink sink' result
+      → DeliversVerdict verdict sink sink' result
+  fault : IsFault verdict → Delivers BAD_DUMP (verdict_text verdict) sink sink' result
+      → DeliversVerdict verdict sink sink' result
+  refused : verdict ≡ NoMemory → result ≡ NO_MEMORY → sink' ≡ sink
+      → DeliversVerdict verdict sink sink' result
 
 -- The source was read to its end, and its bytes spell the script.
 pub record ReadsScript (script : Script) (source source' : Stream) : Type 0 where

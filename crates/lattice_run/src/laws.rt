@@ -1,11 +1,13 @@
 //! Laws of answers: functions that do nothing, whose clauses say what holds of the definitions.
 ghost use Rattle.std.specs.Prelude.{◌≡◌};
+ghost use Rattle.lat_audit.specs.declared.verdict_lines.TheConstants.{MAX_DUMP};
 ghost use Rattle.lattice_run.specs.declared.run.TheConstants.{MAX_INPUT};
 ghost use Rattle.lattice_run.specs.Theorems.{WordsAsk, WordsAskOnce, InputHasAnswer, InputHasOneAnswer, InputHasOneStatus, AnswerIsOneWithThreads, StatusNumbers};
 
-/// The limit, and the statuses, as numbers.
+/// The limits of a script and of a dump, and the statuses, as numbers.
 pub fn limits()
     ensures limit { MAX_INPUT ≡ 1048576 }
+    ensures dump { MAX_DUMP ≡ 8388608 }
     ensures statuses { StatusNumbers }
 {}
 
@@ -15,9 +17,10 @@ pub fn one_task()
     ensures unique { WordsAskOnce }
 {}
 
-/// What words ask for and an input have an answer, its status and its text, with threads and
-/// without, and without threads only one, which is one with threads too. Whatever the operations,
-/// they have one status, the same with threads and without.
+/// What words ask for and an input have an answer, its status and its text, whichever orders of the
+/// sessions' turns are admitted for `share`; with that of the schedule alone only one, which is one
+/// where any order is admitted. Whatever the operations, they have one status, the same whichever
+/// orders are admitted.
 pub fn one_answer()
     ensures exists { InputHasAnswer }
     ensures unique { InputHasOneAnswer }

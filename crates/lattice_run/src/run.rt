@@ -8,16 +8,17 @@ ghost use Rattle.lat_language.specs.Grammar.{Spells};
 ghost use Rattle.lat_session.specs.Outcomes.{Operations, operations_of};
 ghost use Rattle.lattice_run.specs.declared.tasks.Output.{Output};
 ghost use Rattle.lattice_run.specs.declared.tasks.Output.TheVariants.{SharedTranscript};
-ghost use Rattle.lattice_run.specs.declared.tasks.Task.TheVariants.{Play, Gen};
+ghost use Rattle.lattice_run.specs.declared.tasks.Task.TheVariants.{Play, Audit, Gen};
 ghost use Rattle.lattice_run.specs.Tasks.{IsProper, limit};
 ghost use Rattle.lattice_run.specs.Answers.{TakesInput};
 ghost use Rattle.lattice_run.specs.Headline.{Headline};
-ghost use Rattle.lattice_run.specs.PrivateRuns.{Delivers, DeliversOutput};
+ghost use Rattle.lattice_run.specs.PrivateRuns.{Delivers, DeliversOutput, DeliversVerdict};
 ghost use Rattle.lattice_run.specs.PrivateRuns.{AnswersInput, ReadsScript, Ran};
 
 use crate::outputs::{played, shared_transcript, summary};
-use crate::status::{BAD_SCRIPT, DONE, NO_COMMAND, NO_MEMORY, READ_FAILED, WRITE_FAILED};
+use crate::status::{BAD_DUMP, BAD_SCRIPT, DONE, NO_COMMAND, NO_MEMORY, READ_FAILED, WRITE_FAILED};
 use crate::tasks::{Output, Task, task_of};
+use lat_audit::{AuditVerdict, MAX_DUMP, audit, dump_too_long_line, verdict_line};
 use lat_core::NoMemory;
 use lat_io::{Failed, ReadFault, Sink, Source, read_all, write_all_of};
 use lat_language::{MAX_SCRIPT, Script, ScriptFault, bad_line, parse, too_long_line, usage_line};
@@ -26,7 +27,7 @@ use std::alloc::Global;
 use std::sync::Wait;
 use std::thread::Threads;
 
-/// The most bytes of an input.
+/// The most bytes of a script that is read.
 pub const MAX_INPUT: usize = MAX_SCRIPT;
 
 // Writes the text, and gives the status, or that of a failed write.
@@ -153,6 +154,36 @@ where
     }
 }
 
+// Writes the line of a verdict, if there is one, and gives the status.
+fn answer_verdict<K: Sink>(sink: &mut K, verdict: &AuditVerdict) -> u8
+    ensures { DeliversVerdict verdict.now
+        (stream (K.held sink.old) (K.faults sink.old))
+        (stream (K.held sink.new) (K.faults sink.new)) result }
+{
+    match verdict {
+        AuditVerdict::Good(_) => deliver(sink, DONE, verdict_line(verdict).bytes()),
+        AuditVerdict::NoMemory => NO_MEMORY,
+        _ => deliver(sink, BAD_DUMP, verdict_line(verdict).bytes()),
+    }
+}
+
+// Reads a dump, and writes the verdict.
+fn run_audit<S: Source, K: Sink>(alloc: Global, source: &mut S, sink: &mut K) -> u8
+    ensures ran { (operations : Operations) → Ran false operations (Some Audit)
+        (stream (S.left source.old) (S.faults source.old))
+        (stream (S.left source.new) (S.faults source.new))
+        (stream (K.held sink.old) (K.faults sink.old))
+        (stream (K.held sink.new) (K.faults sink.new)) result }
+    ensures taken { TakesInput (limit (Some Audit)) (S.left source.old) (S.left source.new) }
+{
+    match read_all(alloc, source, MAX_DUMP) {
+        Ok(input) => answer_verdict(sink, &audit(alloc, &input)),
+        Err(ReadFault::TooLong(_)) => deliver(sink, BAD_SCRIPT, dump_too_long_line()),
+        Err(ReadFault::Failed) => READ_FAILED,
+        Err(ReadFault::NoMemory) => NO_MEMORY,
+    }
+}
+
 // Writes the answer of `gen`, whatever the source is.
 fn run_gen<K: Sink, F: Operation, G: Operation, H: Operation>(
     alloc: Global,
@@ -191,6 +222,7 @@ fn run<S: Source, K: Sink, F: Operation, G: Operation, H: Operation>(
     match asked {
         None => deliver(sink, NO_COMMAND, usage_line()),
         Some(Task::Play { output }) => run_input(alloc, output, source, sink, ops),
+        Some(Task::Audit) => run_audit(alloc, source, sink),
         Some(
             Task::Gen {
                 seed,
@@ -203,21 +235,25 @@ fn run<S: Source, K: Sink, F: Operation, G: Operation, H: Operation>(
 
 /// Does the task that the words name, with the operations `ops`: it reads what the task reads from
 /// `source`, and appends what is written for it to `sink`. [`Task::Play`] reads a script of at most
-/// `MAX_INPUT` bytes to its end, and [`Task::Gen`] reads nothing. The sessions of `share` are played
-/// as those of `solo`, by the schedule.
+/// `MAX_INPUT` bytes to its end, [`Task::Audit`] a dump of at most `lat_audit::MAX_DUMP` bytes, and
+/// [`Task::Gen`] reads nothing. The sessions of `share` are played as those of `solo`, by the
+/// schedule.
 ///
 /// `words` are the words after the program's name. The answer is one of these statuses:
 ///
 /// - [`DONE`]: `words` are `solo`, `share` or `dump` alone, and the input spells a script, whose
-///   transcript, or the dump of whose lattice, was appended; or they are `gen` with a seed and
+///   transcript, or the dump of whose lattice, was appended; or they are `audit` alone, the input is
+///   the dump of a compatible lattice, and `good` was appended; or they are `gen` with a seed and
 ///   numbers of fields and embeddings, and the summary of the generated script was appended.
 /// - [`NO_COMMAND`]: `words` name no task; the usage line was appended, and nothing read.
-/// - [`BAD_SCRIPT`]: the input has more than `MAX_INPUT` bytes or spells no script; its fault line
-///   was appended.
+/// - [`BAD_SCRIPT`]: the input is longer than the task reads, or it is to be played and spells no
+///   script; its fault line was appended.
 /// - [`READ_FAILED`]: a read failed; nothing was appended.
 /// - [`WRITE_FAILED`]: a write failed; the beginning of what was to be appended was.
 /// - [`NO_MEMORY`]: want of memory for a task was answered; where it reads, a byte was read; nothing
 ///   was appended.
+/// - [`BAD_DUMP`]: the input is to be judged and is the dump of no compatible lattice; the line of its
+///   first fault was appended.
 pub fn run_plain<S: Source, K: Sink, F: Operation, G: Operation, H: Operation>(
     alloc: Global,
     words: &[String],

@@ -22,6 +22,8 @@ pub enum Output {
 pub enum Task {
     /// Plays the script that the source gives, and writes its transcript or the dump of its lattice.
     Play { output: Output },
+    /// Judges the dump that the source gives, and writes the verdict.
+    Audit,
     /// Plays the script that is generated from a seed, with this many fields and embeddings, and
     /// writes its summary alone. Nothing is read.
     Gen { seed: u64, fields: u32, embeds: u32 },
@@ -74,6 +76,8 @@ fn asked_by_word(word: &str) -> Option<Task>
         Some(Task::Play {
             output: Output::Dump,
         })
+    } else if word == "audit" {
+        Some(Task::Audit)
     } else {
         None
     }
@@ -101,9 +105,9 @@ fn asked_by_words(word: &str, seed: &str, fields: &str, embeds: &str) -> Option<
 
 /// The task that the words name, or None where they name none: `solo`, `share` and `dump`, each
 /// alone, are [`Task::Play`], with the output [`Output::Transcript`], [`Output::SharedTranscript`]
-/// and [`Output::Dump`], and `gen` with a seed, a number of fields and a number of embeddings is
-/// [`Task::Gen`]. Numbers are in decimal, without zeros before them: a seed of 64 bits, fields from
-/// 1 to `MAX_GENERATED_FIELDS`, embeddings up to `MAX_GENERATED_EMBEDS`.
+/// and [`Output::Dump`]; `audit` alone is [`Task::Audit`]; and `gen` with a seed, a number of fields
+/// and a number of embeddings is [`Task::Gen`]. Numbers are in decimal, without zeros before them: a
+/// seed of 64 bits, fields from 1 to `MAX_GENERATED_FIELDS`, embeddings up to `MAX_GENERATED_EMBEDS`.
 pub fn task_of(words: &[String]) -> Option<Task>
     ensures { Asks (map string_bytes words.now) result }
 {

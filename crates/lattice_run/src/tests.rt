@@ -2,6 +2,7 @@
 //! come of it.
 ghost use Rattle.std.specs.Prelude.{◌≤◌};
 
+mod audits;
 mod shares;
 
 use crate::run_with;
@@ -296,6 +297,7 @@ fn refuses_other_words(rt: HostRuntime) -> Result<(), Fail> {
     expect_usage(&rt, alloc, &["--help"])?;
     expect_usage(&rt, alloc, &["-"])?;
     expect_usage(&rt, alloc, &["solo", "x"])?;
+    expect_usage(&rt, alloc, &["audit", "1", "1", "1"])?;
     expect_usage(&rt, alloc, &["gen", "1", "1"])?;
     expect_usage(&rt, alloc, &["gen", "1", "1", "1", "1"])?;
     expect_usage(&rt, alloc, &["solo", "1", "1", "1"])?;
