@@ -1,3 +1,4 @@
 pub mod ColumnTables
+mod DigitColumns
 pub mod KeptMaps
 pub mod Undoing

@@ -10,6 +10,9 @@ mod embeddings;
 mod laws;
 mod maps;
 mod roots;
+mod stored;
+mod stored_columns;
 
 pub use embeddings::Embedding;
 pub use laws::embeddings_are_determined;
+pub use stored::StoredEmbedding;

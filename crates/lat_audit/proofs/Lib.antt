@@ -8,6 +8,7 @@ pub mod DumpedLines
 pub mod LineWords
 pub mod ReadRows
 pub mod ReadLines
+mod ComposedMaps
 pub mod ReadMaps
 pub mod PairPlaces
 pub mod LeadFields

@@ -14,12 +14,12 @@ ghost use Rattle.lat_audit.specs.PrivateRules.{HasIdentity, HasPrimeSubfield, Is
 use crate::compositions::are_composed;
 use crate::faults::Fault;
 use crate::tables::Table;
-use ff_embed::Embedding;
+use ff_embed::StoredEmbedding;
 use ff_field::Field;
 use lat_core::Edition;
 
 // Whether an embedding of a field in itself is the identity: its generator's image says so.
-fn is_identity(map: &Embedding, field: &Field) -> bool
+fn is_identity(map: &StoredEmbedding, field: &Field) -> bool
     requires source { map.now.source ≡ field.now }
     requires target { map.now.target ≡ field.now }
     ensures { IsTrue result ↔ (map.now.images ≡ identity_map field.now) }
@@ -29,7 +29,7 @@ fn is_identity(map: &Embedding, field: &Field) -> bool
 }
 
 // Whether a map is the first one and then the second one: its generator's image says so.
-fn is_composition(map: &Embedding, first: &Embedding, second: &Embedding) -> bool
+fn is_composition(map: &StoredEmbedding, first: &StoredEmbedding, second: &StoredEmbedding) -> bool
     requires begins { first.now.source ≡ map.now.source }
     requires meets { second.now.source ≡ first.now.target }
     requires ends { second.now.target ≡ map.now.target }
@@ -117,7 +117,7 @@ fn without_prime_subfield(table: &Table) -> Option<(u32, u32)>
 }
 
 // Whether the second map takes back what the first one, from this field, does.
-fn undoes(field: &Field, first: &Embedding, second: &Embedding) -> bool
+fn undoes(field: &Field, first: &StoredEmbedding, second: &StoredEmbedding) -> bool
     requires begins { first.now.source ≡ field.now }
     requires meets { second.now.source ≡ first.now.target }
     requires ends { second.now.target ≡ field.now }
@@ -129,7 +129,7 @@ fn undoes(field: &Field, first: &Embedding, second: &Embedding) -> bool
 }
 
 // Whether the map, from i to j, has an inverse.
-fn has_inverse(table: &Table, i: u32, j: u32, map: &Embedding) -> bool
+fn has_inverse(table: &Table, i: u32, j: u32, map: &StoredEmbedding) -> bool
     requires first { i < length table.now.rows }
     requires second { j < length table.now.rows }
     requires between { IsBetween table.now.rows i j map.now }
@@ -187,7 +187,13 @@ fn without_inverse(table: &Table) -> Option<(u32, u32)>
 }
 
 // Whether the map from i to k is the first map and then the second one.
-fn has_composition(table: &Table, i: u32, k: u32, first: &Embedding, second: &Embedding) -> bool
+fn has_composition(
+    table: &Table,
+    i: u32,
+    k: u32,
+    first: &StoredEmbedding,
+    second: &StoredEmbedding,
+) -> bool
     requires source { i < length table.now.rows }
     requires target { k < length table.now.rows }
     requires begins { first.now.source ≡ field_at table.now.rows i }

@@ -10,9 +10,9 @@ ghost use Rattle.lat_audit.specs.PrivateReadings.{IsBefore};
 ghost use Rattle.lat_audit.specs.PrivateTables.{pair_of, HasNoMap, IsMapAt, ArePlaces, lattice_with};
 
 use crate::maps::field_of;
-use ff_embed::Embedding;
+use ff_embed::StoredEmbedding;
 use ff_field::Field;
-use lat_core::{Edition, FieldRow, Lattice, MAX_FIELDS, MapRow, NoMemory};
+use lat_core::{Edition, FieldRow, Lattice, MAX_FIELDS, NoMemory, SharedMap};
 use std::alloc::Global;
 use std::marker::Model;
 
@@ -24,7 +24,7 @@ const PAIRS: usize = MAX_FIELDS * MAX_FIELDS;
 #[derive(Drop)]
 pub(crate) struct Table {
     fields: Vec<FieldRow>,
-    maps: Vec<MapRow>,
+    maps: Vec<SharedMap>,
     places: Vec<Option<u32>>,
 }
 
@@ -64,8 +64,15 @@ fn no_places(alloc: Global) -> Result<Vec<Option<u32>>, NoMemory>
     Ok(places)
 }
 
+// The embedding of a map.
+fn stored_map(map: &SharedMap) -> &StoredEmbedding
+    ensures { result.now ≡ map.now.map }
+{
+    &map.map
+}
+
 // The place of the map of each pair.
-fn places_of(alloc: Global, maps: &[MapRow]) -> Result<Vec<Option<u32>>, NoMemory>
+fn places_of(alloc: Global, maps: &[SharedMap]) -> Result<Vec<Option<u32>>, NoMemory>
     requires few { length maps.now ≤ MAX_FIELDS * MAX_FIELDS }
     requires within { All (λ m. (m.from < MAX_FIELDS) × (m.into < MAX_FIELDS)) maps.now }
     ensures count { IfOk result (λ places. length places.items ≡ MAX_FIELDS * MAX_FIELDS) }
@@ -83,7 +90,7 @@ impl Table {
     pub(crate) fn new(
         alloc: Global,
         fields: Vec<FieldRow>,
-        maps: Vec<MapRow>,
+        maps: Vec<SharedMap>,
     ) -> Result<Table, NoMemory>
         requires fields { length fields.items ≤ MAX_FIELDS }
         requires maps { length maps.items ≤ MAX_FIELDS * MAX_FIELDS }
@@ -120,7 +127,7 @@ impl Table {
     }
 
     // The map from one field to another; None exactly where there is none.
-    pub(crate) fn map(&self, i: u32, j: u32) -> Option<&Embedding>
+    pub(crate) fn map(&self, i: u32, j: u32) -> Option<&StoredEmbedding>
         requires first { i < length self.now.rows }
         requires second { j < length self.now.rows }
         ensures { MatchOption result (get self.now.maps (i, j) ≡ None)
@@ -128,7 +135,7 @@ impl Table {
     {
         match self.places[pair_place(i, j)] {
             None => None,
-            Some(place) => Some(&self.maps[place as usize].map),
+            Some(place) => Some(stored_map(&self.maps[place as usize])),
         }
     }
 

@@ -71,7 +71,13 @@ fn restriction(lattice: &Lattice, from: u32, into: u32, d: u32) -> PolyX
 {
     let (subfield, source, target) = (lattice.field(d), lattice.field(from), lattice.field(into));
     let (sub, whole) = (lattice.map(d, from).unwrap(), lattice.map(d, into).unwrap());
-    restricted_in(&subfield.field, &source.field, &target.field, sub, whole)
+    restricted_in(
+        &subfield.field,
+        &source.field,
+        &target.field,
+        &sub.embedding(),
+        &whole.embedding(),
+    )
 }
 
 // The same as g, for the values at which the map sends what is prescribed, too.

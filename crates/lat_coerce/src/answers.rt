@@ -111,7 +111,7 @@ fn minimal_over(lattice: &Lattice, value: &Tagged, over: u32) -> Answer
         Some(map) => Answer::RelPoly(over_in(
             field(lattice, over),
             field(lattice, into),
-            map,
+            &map.embedding(),
             &value.value,
         )),
     }

@@ -1,6 +1,6 @@
 -- What is stored once maps are put in, for those who add some.
 --     IsPairOf m q     m is put in for the pair q
-use Rattle.std.proofs.Common.{◌≡◌, ◌⊎◌, inl, inr, ⊎_elim, ℕ, zero, suc, ◌<◌, List, [], ◌∷◌, length, slice_index_or, sym, ap, ◌∙◌, cond, true, false, Bool, arith, Option, Some, None, is_some, Ordering, Less, Equal, Greater, refl}
+use Rattle.std.proofs.Common.{◌≡◌, ◌⊎◌, inl, inr, ⊎_elim, ℕ, zero, suc, ◌<◌, List, [], ◌∷◌, length, slice_index_or, sym, ap, ◌∙◌, cond, true, false, Bool, arith, Some, is_some, Ordering, Less, Equal, Greater, refl}
 use Rattle.std.specs.Ordering.{eq_by_cmp, is_eq}
 use Rattle.std.specs.FinMap.{FinMap, get, insert, get-insert}
 use Rattle.std.proofs.lemmas.Bool.{cases_Bool}

@@ -19,7 +19,7 @@ use crate::opening::{identities, prime_fields};
 use crate::rows::{FieldRow, MapRow};
 use crate::shared_maps::{SharedMap, shared};
 use crate::shared_rows::SharedRow;
-use ff_embed::Embedding;
+use ff_embed::StoredEmbedding;
 use std::alloc::Global;
 use std::marker::Model;
 use std::sync::Arc;
@@ -55,7 +55,8 @@ impl Lattice {
     {
         let fields = prime_fields(alloc, edition)?;
         let maps = identities(alloc, fields.as_slice())?;
-        Lattice::of_rows(alloc, edition, fields, maps)
+        let shared_maps = shared(alloc, maps.as_slice())?;
+        Lattice::of_rows(alloc, edition, fields, shared_maps)
     }
 
     /// The edition.
@@ -119,7 +120,7 @@ impl Lattice {
     }
 
     /// The map from one field to another; None exactly where none is stored for the pair.
-    pub fn map(&self, i: u32, j: u32) -> Option<&Embedding>
+    pub fn map(&self, i: u32, j: u32) -> Option<&StoredEmbedding>
         ensures { MatchOption result (get self.now.maps (i, j) ≡ None)
             (λ e. Stored self.now i j e.now.images × IsBetween self.now.rows i j e.now) }
     {
@@ -142,12 +143,13 @@ impl Lattice {
     }
 
     /// The lattice of the edition with these fields and maps. They are compatible, and each map
-    /// goes between the fields of its numbers; of maps for one pair the last one counts.
+    /// goes between the fields of its numbers; of maps for one pair the last one counts. The maps
+    /// are shared, and not copied.
     pub fn of_rows(
         alloc: Global,
         edition: Edition,
         fields: Vec<FieldRow>,
-        maps: Vec<MapRow>,
+        maps: Vec<SharedMap>,
     ) -> Result<Lattice, NoMemory>
         requires compatible { IsCompatible
             (with_rows (no_rows (edition_of edition)) fields.items maps.items) }
@@ -156,7 +158,6 @@ impl Lattice {
             ≡ with_rows (no_rows (edition_of edition)) fields.items maps.items) }
     {
         let none = Vec::new(alloc);
-        let maps = shared(alloc, maps.as_slice())?;
         let rows = grown_rows(alloc, none.as_slice(), fields.as_slice(), maps.as_slice())?;
         Ok(Lattice {
             edition,
@@ -271,7 +272,7 @@ fn row_made(
 ) -> Result<Arc<SharedRow>, NoMemory>
     ensures { IfOk result (λ r. r.value ≡ row_with number (new_row field.now) maps.now) }
 {
-    let mut row = SharedRow::new(alloc, field.copy());
+    let mut row = SharedRow::new(alloc, field.copy())?;
     row.put_in(number, maps)?;
     Ok(Arc::new(alloc, row)?)
 }

@@ -4,7 +4,7 @@ ghost use Rattle.std.specs.Prelude.{◌≡◌, IfOk};
 
 use crate::memory::NoMemory;
 use crate::rows::MapRow;
-use ff_embed::Embedding;
+use ff_embed::{Embedding, StoredEmbedding};
 use std::alloc::Global;
 use std::marker::Model;
 use std::sync::Arc;
@@ -15,7 +15,7 @@ use std::sync::Arc;
 pub struct SharedMap {
     pub from: u32,
     pub into: u32,
-    pub map: Arc<Embedding>,
+    pub map: Arc<StoredEmbedding>,
 }
 
 impl Model for SharedMap {
@@ -28,7 +28,20 @@ impl Model for SharedMap {
 
 impl SharedMap {
     /// The embedding of the field of one number in that of another one, to be shared.
-    pub fn new(alloc: Global, from: u32, into: u32, map: Embedding) -> Result<SharedMap, NoMemory>
+    pub fn new(alloc: Global, from: u32, into: u32, map: &Embedding) -> Result<SharedMap, NoMemory>
+        ensures { IfOk result (λ row. row ≡ record { from = from; into = into; map = map.now }) }
+    {
+        let stored = StoredEmbedding::of(alloc, map)?;
+        SharedMap::of_stored(alloc, from, into, stored)
+    }
+
+    /// The same of an embedding that is stored already.
+    pub fn of_stored(
+        alloc: Global,
+        from: u32,
+        into: u32,
+        map: StoredEmbedding,
+    ) -> Result<SharedMap, NoMemory>
         ensures { IfOk result (λ row. row ≡ record { from = from; into = into; map = map }) }
     {
         Ok(SharedMap {
@@ -42,7 +55,7 @@ impl SharedMap {
     fn of_row(alloc: Global, row: &MapRow) -> Result<SharedMap, NoMemory>
         ensures { IfOk result (λ shared. shared ≡ row.now) }
     {
-        SharedMap::new(alloc, row.from, row.into, row.map.copy())
+        SharedMap::new(alloc, row.from, row.into, &row.map)
     }
 }
 

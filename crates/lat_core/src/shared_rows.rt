@@ -7,7 +7,7 @@ ghost use Rattle.lat_core.specs.PrivateLattices.{row_with};
 use crate::memory::NoMemory;
 use crate::rows::FieldRow;
 use crate::shared_maps::SharedMap;
-use ff_embed::Embedding;
+use ff_embed::StoredEmbedding;
 use indexmap::IndexMap;
 use std::alloc::Global;
 use std::marker::Model;
@@ -17,8 +17,8 @@ use std::sync::Arc;
 /// in which they end. Lattices that grow from one another share such rows.
 #[derive(Drop)]
 pub struct SharedRow {
-    row: FieldRow,
-    maps: IndexMap<u32, Arc<Embedding>>,
+    row: Arc<FieldRow>,
+    maps: IndexMap<u32, Arc<StoredEmbedding>>,
 }
 
 impl Model for SharedRow {
@@ -31,7 +31,7 @@ impl Model for SharedRow {
     ghost coded = { row_maps_code };
 
     ghost view = { λ a. record {
-      row = a.row;
+      row = a.row.value;
       maps = maps_of (map (λ e. (e.0, e.1.value)) a.maps.entries);
     } };
 }
@@ -41,11 +41,12 @@ impl SharedRow {
     pub fn field(&self) -> &FieldRow
         ensures { result.now ≡ self.now.row }
     {
-        &self.row
+        let row: &FieldRow = &self.row;
+        row
     }
 
     /// The map into the field of this number; None exactly where there is none.
-    pub fn map_into(&self, target: u32) -> Option<&Arc<Embedding>>
+    pub fn map_into(&self, target: u32) -> Option<&Arc<StoredEmbedding>>
         ensures { MatchOption result (get self.now.maps target ≡ None)
             (λ e. get self.now.maps target ≡ Some e.now.value) }
     {
@@ -53,21 +54,21 @@ impl SharedRow {
     }
 
     // A field from which no map is stored.
-    pub(crate) fn new(alloc: Global, row: FieldRow) -> SharedRow
-        ensures { result ≡ record { row = row; maps = empty } }
+    pub(crate) fn new(alloc: Global, row: FieldRow) -> Result<SharedRow, NoMemory>
+        ensures { IfOk result (λ new. new ≡ record { row = row; maps = empty }) }
     {
-        SharedRow {
-            row,
+        Ok(SharedRow {
+            row: Arc::new(alloc, row)?,
             maps: IndexMap::new(alloc),
-        }
+        })
     }
 
-    // An equal row with a table of its own, whose maps are shared.
+    // An equal row with a table of its own, whose field and maps are shared.
     pub(crate) fn copy(&self) -> Result<SharedRow, NoMemory>
         ensures { IfOk result (λ row. row ≡ self.now) }
     {
         Ok(SharedRow {
-            row: self.row.copy(),
+            row: Arc::try_clone(&self.row)?,
             maps: self.maps.clone()?,
         })
     }
@@ -80,7 +81,7 @@ impl SharedRow {
     }
 
     // Stores a map into the field of this number.
-    fn store(&mut self, target: u32, map: &Arc<Embedding>) -> Result<(), NoMemory>
+    fn store(&mut self, target: u32, map: &Arc<StoredEmbedding>) -> Result<(), NoMemory>
         ensures { OnOk result (self.new ≡ record {
           row = self.old.row;
           maps = insert self.old.maps target map.now.value;

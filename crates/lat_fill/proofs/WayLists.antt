@@ -86,6 +86,13 @@ found_stored (Some x) images N B h e = (images x, h.0)
 pub stored_none : {L : Lattice} {i k : ℕ} {m : List (List ℕ)} → get L.maps (i, k) ≡ None → Stored L i k m → ⊥
 stored_none {L} {i} {k} {m} e s = let f : get L.maps (i, k) ≡ Some m = s.found in cc
 
+-- what is known of a stored map is known of an equal one
+pub same_stored : {L : Lattice} {i k : ℕ} {e f : FieldMap} → f ≡ e
+    → Stored L i k e.images × IsBetween L.rows i k e
+    → Stored L i k f.images × IsBetween L.rows i k f
+same_stored {L} {i} {k} same s =
+    subst (λ (x : FieldMap). Stored L i k x.images × IsBetween L.rows i k x) (sym same) s
+
 -- ---- ways
 same_member : (ms : List Member) (a : ℕ) (d : Member) → a < length ms
     → slice_index_or ms a d ≡ slice_index_or ms a no_member

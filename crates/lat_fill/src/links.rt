@@ -51,8 +51,9 @@ fn push_link(
         (number_at members.now a) (number_at members.now b) maps.old.items maps.new.items) }
 {
     let (from, into) = (members[a].number, members[b].number);
-    let map = World::of(members).link(a, b);
-    add(maps, SharedMap::new(lattice.allocator(), from, into, map)?)
+    let alloc = lattice.allocator();
+    let map = World::of(members).link(alloc, a, b)?;
+    add(maps, SharedMap::of_stored(alloc, from, into, map)?)
 }
 
 // Appends the map from the `a`-th to the `b`-th member, if there is one and the lattice has none

@@ -8,7 +8,7 @@ ghost use Rattle.lat_core.specs.declared.TheConstants.{MAX_FIELDS};
 ghost use Rattle.lat_fill.specs.PrivateListing.{IsSmallDegree, AreListed, AreMade, GoInto};
 ghost use Rattle.lat_fill.specs.PrivateMaking.{IsMadeMap};
 
-use ff_embed::Embedding;
+use ff_embed::{Embedding, StoredEmbedding};
 use ff_factor::least_irreducible;
 use ff_field::Field;
 use ff_poly::Prime;
@@ -94,7 +94,8 @@ pub(crate) fn list_made(
 {
     let (first, target) = (lattice.fields(), field_of(lattice, into));
     for (place, row) in fields.iter().enumerate() {
-        let map = made_map(field_in(row), target);
+        let made = made_map(field_in(row), target);
+        let map = StoredEmbedding::of(lattice.allocator(), &made)?;
         members.push(Member {
             number: first + place as u32,
             map,

@@ -7,7 +7,7 @@ ghost use Rattle.lat_fill.specs.PrivateListing.{AreListed};
 ghost use Rattle.lat_core.specs.SharedRows.{IsBetween};
 
 use crate::degrees::is_member;
-use ff_embed::Embedding;
+use ff_embed::{Embedding, StoredEmbedding};
 use lat_core::{Lattice, NoMemory};
 use lat_world::Member;
 
@@ -17,21 +17,21 @@ fn member_map(
     lattice: &Lattice,
     from: u32,
     into: u32,
-    phi: &Embedding,
+    phi: &StoredEmbedding,
     number: u32,
-) -> Option<Embedding>
+) -> Result<Option<StoredEmbedding>, NoMemory>
     requires source { phi.now.source ≡ field_at lattice.now.rows from }
     requires target { phi.now.target ≡ field_at lattice.now.rows into }
-    ensures { MatchOption result (IsMember lattice.now from into number → ⊥)
+    ensures { IfOk result (λ map. MatchOption map (IsMember lattice.now from into number → ⊥)
         (λ e. IsMapInto lattice.now from into phi.now.images lattice.now.rows number e.images
-        × IsBetween lattice.now.rows number into e) }
+        × IsBetween lattice.now.rows number into e)) }
 {
-    match lattice.map(number, into) {
-        Some(map) => Some(map.copy()),
-        None => match lattice.map(number, from) {
-            Some(map) => Some(map.compose(phi)),
-            None => None,
-        },
+    if let Some(map) = lattice.map(number, into) {
+        return Ok(Some(map.copy()?));
+    }
+    match lattice.map(number, from) {
+        None => Ok(None),
+        Some(map) => { Ok(Some(map.compose(lattice.allocator(), phi)?)) }
     }
 }
 
@@ -41,7 +41,7 @@ fn list_member(
     lattice: &Lattice,
     from: u32,
     into: u32,
-    phi: &Embedding,
+    phi: &StoredEmbedding,
     number: u32,
     members: &mut Vec<Member>,
 ) -> Result<(), NoMemory>
@@ -53,10 +53,31 @@ fn list_member(
     ensures { OnOk result (AreListed lattice.now from into phi.now.images lattice.now.rows
         (number + 1) members.new.items) }
 {
-    if let Some(map) = member_map(lattice, from, into, phi, number) {
+    if let Some(map) = member_map(lattice, from, into, phi, number)? {
         members.push(Member { number, map })?;
     }
     Ok(())
+}
+
+// The members, in the order of their numbers, where the embedding is stored.
+fn members_by(
+    lattice: &Lattice,
+    from: u32,
+    into: u32,
+    phi: &StoredEmbedding,
+) -> Result<Vec<Member>, NoMemory>
+    requires source { phi.now.source ≡ field_at lattice.now.rows from }
+    requires target { phi.now.target ≡ field_at lattice.now.rows into }
+    ensures { IfOk result (λ members. AreListed lattice.now from into phi.now.images
+        lattice.now.rows (length lattice.now.rows) members.items) }
+{
+    let mut members = Vec::new(lattice.allocator());
+    for number in 0..lattice.fields() {
+        if is_member(lattice, from, into, number) {
+            list_member(lattice, from, into, phi, number, &mut members)?;
+        }
+    }
+    Ok(members)
 }
 
 // The members, in the order of their numbers.
@@ -71,11 +92,6 @@ pub(crate) fn members(
     ensures { IfOk result (λ members. AreListed lattice.now from into phi.now.images
         lattice.now.rows (length lattice.now.rows) members.items) }
 {
-    let mut members = Vec::new(lattice.allocator());
-    for number in 0..lattice.fields() {
-        if is_member(lattice, from, into, number) {
-            list_member(lattice, from, into, phi, number, &mut members)?;
-        }
-    }
-    Ok(members)
+    let stored = StoredEmbedding::of(lattice.allocator(), phi)?;
+    members_by(lattice, from, into, &stored)
 }

@@ -30,12 +30,13 @@ fn push_outlet(
         (number_at members.now a) k maps.old.items maps.new.items) }
 {
     let from = members[a].number;
-    let link = World::of(members).link(a, b);
+    let alloc = lattice.allocator();
+    let link = World::of(members).link(alloc, a, b)?;
     match lattice.map(members[b].number, k) {
         None => unreachable!(),
         Some(stored) => {
-            let map = link.compose(stored);
-            add(maps, SharedMap::new(lattice.allocator(), from, k, map)?)
+            let map = link.compose(alloc, stored)?;
+            add(maps, SharedMap::of_stored(alloc, from, k, map)?)
         }
     }
 }

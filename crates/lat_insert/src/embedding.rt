@@ -13,7 +13,7 @@ ghost use Rattle.lat_insert.specs.Insertions.{StepAdds};
 ghost use Rattle.lat_insert.specs.PrivateEmbedding.{AddsMaps, IsMissingCount, FillsBy};
 
 use crate::room::lacks_room;
-use ff_embed::Embedding;
+use ff_embed::{Embedding, StoredEmbedding};
 use ff_field::{Field, Value};
 use lat_choice::choice;
 use lat_core::{FieldName, Lattice, NoMemory, Reply, Sending, StepRefusal, Tagged};
@@ -83,7 +83,7 @@ fn objection(
 }
 
 // Whether a map sends what is prescribed, if anything is.
-fn is_sent(map: &Embedding, sending: &Option<Sending>) -> bool
+fn is_sent(map: &StoredEmbedding, sending: &Option<Sending>) -> bool
     requires { MatchOption sending.now (Unit {0})
         (λ s. (field_values map.now.source).Valid s.value.value) }
     ensures { IsTrue result

@@ -1,7 +1,7 @@
 //! The fields of a lattice that go into one field: the degrees that they lack under greatest common
 //! divisors, and the one map between each two of them that agrees with their maps into that field.
 //!
-//! In fixed room and without allocation.
+//! Only the maps that are made take memory.
 #![tactic(auto)]
 
 mod laws;

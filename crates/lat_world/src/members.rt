@@ -1,5 +1,5 @@
 //! Members: fields of a lattice that go into one field.
-use ff_embed::Embedding;
+use ff_embed::StoredEmbedding;
 
 /// The greatest number of members: a lattice has room for as many fields.
 pub const MAX_MEMBERS: usize = 200;
@@ -10,5 +10,5 @@ pub struct Member {
     /// The field's number in the lattice.
     pub number: u32,
     /// Its map.
-    pub map: Embedding,
+    pub map: StoredEmbedding,
 }

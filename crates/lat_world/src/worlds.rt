@@ -1,5 +1,5 @@
 //! All fields that go into one field.
-ghost use Rattle.std.specs.Prelude.{◌≡◌, ℕ, ◌<◌, ◌↔◌, length, Contains, IsSome, IfSome};
+ghost use Rattle.std.specs.Prelude.{◌≡◌, ℕ, ◌<◌, ◌↔◌, length, Contains, IsSome, IfOk, IfSome};
 ghost use Prim.Native.Nat.{◌∣◌};
 ghost use Rattle.alg_model.specs.Maps.{degree_of};
 ghost use Rattle.alg_choices.specs.Degrees.{InClosure};
@@ -9,8 +9,9 @@ ghost use Rattle.lat_world.specs.Worlds.{AreMembers, degrees_of, map_at, IsForce
 
 use crate::{MAX_MEMBERS, Member};
 use arrayvec::ArrayVec;
-use ff_embed::Embedding;
+use ff_embed::StoredEmbedding;
 use ff_meet::DegreeSet;
+use std::alloc::{AllocError, Global};
 use std::marker::Model;
 
 /// The members below one field, as a lattice has them.
@@ -56,34 +57,42 @@ impl<'m> World<'m> {
     /// The one map from the `a`-th to the `b`-th member, counted from 0, which, followed by the map
     /// of the `b`-th, is that of the `a`-th; `None` exactly where the degree of the `a`-th doesn't
     /// divide that of the `b`-th.
-    pub fn forced(&self, a: usize, b: usize) -> Option<Embedding>
+    ///
+    /// The only fault is want of memory.
+    pub fn forced(
+        &self,
+        alloc: Global,
+        a: usize,
+        b: usize,
+    ) -> Result<Option<StoredEmbedding>, AllocError>
         requires first { a < length self.now }
         requires second { b < length self.now }
-        ensures some { IsSome result
-            ↔ (degree_of (map_at self.now a).source ∣ degree_of (map_at self.now b).source) }
-        ensures forced { IfSome result (IsForcedBetween self.now a b) }
-        ensures whole { IfSome result IsSmallEmbedding }
+        ensures some { IfOk result (λ forced. IsSome forced
+            ↔ (degree_of (map_at self.now a).source ∣ degree_of (map_at self.now b).source)) }
+        ensures forced { IfOk result (λ forced. IfSome forced (IsForcedBetween self.now a b)) }
+        ensures whole { IfOk result (λ forced. IfSome forced IsSmallEmbedding) }
     {
         let members = self.members();
         let (from, into) = (&members[a].map, &members[b].map);
         if into.source_degree() % from.source_degree() != 0 {
-            return None;
+            return Ok(None);
         }
-        Some(Embedding::through(from, into))
+        Ok(Some(StoredEmbedding::through(alloc, from, into)?))
     }
 
     /// The one map from the `a`-th to the `b`-th member, counted from 0, which, followed by the map
-    /// of the `b`-th, is that of the `a`-th; the degree of the `a`-th divides that of the `b`-th.
-    pub fn link(&self, a: usize, b: usize) -> Embedding
+    /// of the `b`-th, is that of the `a`-th; the degree of the `a`-th divides that of the `b`-th. The
+    /// only fault is want of memory.
+    pub fn link(&self, alloc: Global, a: usize, b: usize) -> Result<StoredEmbedding, AllocError>
         requires first { a < length self.now }
         requires second { b < length self.now }
         requires divides { degree_of (map_at self.now a).source
             ∣ degree_of (map_at self.now b).source }
-        ensures forced { IsForcedBetween self.now a b result }
-        ensures whole { IsSmallEmbedding result }
+        ensures forced { IfOk result (IsForcedBetween self.now a b) }
+        ensures whole { IfOk result IsSmallEmbedding }
     {
         let members = self.members();
-        Embedding::through(&members[a].map, &members[b].map)
+        StoredEmbedding::through(alloc, &members[a].map, &members[b].map)
     }
 
     // The members.

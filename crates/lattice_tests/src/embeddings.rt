@@ -3,8 +3,9 @@
 ghost use Rattle.std.specs.Prelude.{◌≡◌, IfSome};
 
 use crate::field_values::{field_of, value_of};
-use ff_embed::Embedding;
+use ff_embed::{Embedding, StoredEmbedding};
 use ff_field::{Field, Value};
+use std::alloc::Global;
 use std::mem::size_of;
 use std::process::Abort;
 
@@ -124,6 +125,24 @@ fn has_images(rt: &impl Abort, row: &Example) -> bool {
 fn images_and_preimages(rt: HostRuntime) {
     for row in &EXAMPLES {
         assert!(rt; has_images(&rt, row));
+    }
+}
+
+// The embedding of the example as it is stored.
+fn stored(rt: &impl Abort, alloc: Global, row: &Example) -> StoredEmbedding {
+    let from = field_of(rt, row.p, row.from);
+    let into = field_of(rt, row.p, row.into);
+    let map = embedded(rt, &from, &into, row.root);
+    StoredEmbedding::of(alloc, &map).expect(rt, "memory")
+}
+
+#[test]
+fn stored_embeddings_are_the_same(rt: HostRuntime) {
+    for row in &EXAMPLES {
+        let map = stored(&rt, rt.alloc(), row);
+        let copy = map.copy().expect(&rt, "memory");
+        assert_eq!(rt; map.image().digits(), row.root);
+        assert_eq!(rt; copy.embedding().image().digits(), row.root);
     }
 }
 

@@ -3,8 +3,10 @@ ghost use Rattle.std.specs.Prelude.{◌≡◌};
 
 use crate::embeddings::embedded;
 use crate::field_values::field_of;
+use ff_embed::StoredEmbedding;
 use ff_field::Field;
 use lat_world::{Member, World};
+use std::alloc::Global;
 use std::process::Abort;
 
 // The field modulo 1 + x^3 + x^12.
@@ -86,14 +88,15 @@ const FORCED: [Forced; 8] = [
 ];
 
 // The member of this number, by a root.
-fn member(rt: &impl Abort, number: u32, row: &Subfield, target: &Field) -> Member
+fn member(rt: &impl Abort, alloc: Global, number: u32, row: &Subfield, target: &Field) -> Member
     ensures number { result.number ≡ number }
     ensures target { result.map.target ≡ target.now }
 {
     let from = field_of(rt, 2, row.polynomial);
+    let map = embedded(rt, &from, target, row.root);
     Member {
         number,
-        map: embedded(rt, &from, target, row.root),
+        map: StoredEmbedding::of(alloc, &map).expect(rt, "memory"),
     }
 }
 
@@ -101,15 +104,16 @@ fn member(rt: &impl Abort, number: u32, row: &Subfield, target: &Field) -> Membe
 fn forced_maps(rt: HostRuntime) {
     let target = field_of(&rt, 2, TARGET);
     let members = [
-        member(&rt, 0, &SUBFIELDS[0], &target),
-        member(&rt, 1, &SUBFIELDS[1], &target),
-        member(&rt, 2, &SUBFIELDS[2], &target),
-        member(&rt, 3, &SUBFIELDS[3], &target),
+        member(&rt, rt.alloc(), 0, &SUBFIELDS[0], &target),
+        member(&rt, rt.alloc(), 1, &SUBFIELDS[1], &target),
+        member(&rt, rt.alloc(), 2, &SUBFIELDS[2], &target),
+        member(&rt, rt.alloc(), 3, &SUBFIELDS[3], &target),
     ];
     let world = World::of(&members);
     for row in &FORCED {
         assert!(rt; row.from < 4 && row.into < 4);
-        match (world.forced(row.from, row.into), row.image) {
+        let forced = world.forced(rt.alloc(), row.from, row.into);
+        match (forced.expect(&rt, "memory"), row.image) {
             (Some(map), Some(image)) => assert_eq!(rt; map.image().digits(), image),
             (None, None) => {}
             _ => panic!(rt; "an answer exactly where degrees divide"),
@@ -121,8 +125,8 @@ fn forced_maps(rt: HostRuntime) {
 fn missing_degrees(rt: HostRuntime) {
     let target = field_of(&rt, 2, TARGET);
     let members = [
-        member(&rt, 0, &SUBFIELDS[0], &target),
-        member(&rt, 1, &SUBFIELDS[2], &target),
+        member(&rt, rt.alloc(), 0, &SUBFIELDS[0], &target),
+        member(&rt, rt.alloc(), 1, &SUBFIELDS[2], &target),
     ];
     let missing = World::of(&members).missing();
     for d in 0..60 {

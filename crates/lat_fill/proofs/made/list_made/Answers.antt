@@ -1,10 +1,11 @@
 use Rattle.std.proofs.Common.{◌≡◌, ◌+◌, ◌++◌, length, length-append, sym, subst, arith}
 use Rattle.lat_fill.specs.PrivateListing.{AreListed}
+use Rattle.lat_fill.specs.PrivateMaking.{IsMadeMap}
 use Rattle.lat_fill.proofs.MadeFields.{row_field, divides_at, made_map_at, list_added}
 use Rattle.lat_fill.proofs.made.list_made.Goals as goal
 
-pub made_map-map-requires-clause-divides : goal.made_map-map-requires-clause-divides
-made_map-map-requires-clause-divides c = divides_at
+pub made_map-made-requires-clause-divides : goal.made_map-made-requires-clause-divides
+made_map-made-requires-clause-divides c = divides_at
     (row_field c.args.fields.now c.loop-place.place c.index-fields-place.result c.field_in.result.now c.loop-place-test.true c.index-fields-place.is c.field_in.ensures)
     c.field_of-target.ensures (c.requires.into.divides c.loop-place.place c.loop-place-test.true)
 
@@ -16,7 +17,8 @@ loop-place-preserved c = λ E phi h.
     (c.loop-place.invariant E phi h) _ c.loop-place-test.true (omega (arith, c.fields-first.ensures.value))
     (made_map_at
     (row_field c.args.fields.now c.loop-place.place c.index-fields-place.result c.field_in.result.now c.loop-place-test.true c.index-fields-place.is c.field_in.ensures)
-    c.field_of-target.ensures c.made_map-map.ensures))
+    c.field_of-target.ensures
+    (subst (IsMadeMap c.field_in.result.now c.field_of-target.result.now) (sym c.in_ok-map.ensures.same) c.made_map-made.ensures)))
 
 pub returns : goal.returns
 returns c = λ E phi h.

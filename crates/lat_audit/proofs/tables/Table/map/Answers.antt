@@ -4,6 +4,7 @@ use Rattle.std.proofs.lemmas.List.{get_or_default}
 use Rattle.std.specs.Prelude.{slice_index_or}
 use Rattle.std.specs.FinMap.{get}
 use Rattle.alg_model.specs.Lattices.{Lattice, Stored}
+use Rattle.ff_embed.specs.SmallEmbeddings.{FieldMap}
 use Rattle.lat_core.specs.SharedRows.{IsBetween}
 use Rattle.lat_core.specs.declared.TheConstants.{MAX_FIELDS}
 use Rattle.lat_audit.proofs.PairPlaces.{table_none, table_at, table_stored}
@@ -29,6 +30,8 @@ returns-in-Some c =
     let within : c.pair_place.result < length t.places.items = omega (arith, count, c.pair_place.ensures.within) in
     ap (λ n. slice_index_or t.places.items n None) (sym c.pair_place.ensures.place)
     ∙ get_or_default t.places.items c.pair_place.result None c.index.result.now within ∙ sym c.index.ensures ∙ told in
-    subst (λ (L : Lattice). Stored L c.args.i c.args.j c.index-in-Some.result.now.map.images × IsBetween L.rows c.args.i c.args.j c.index-in-Some.result.now.map) c.self.view_is
+    subst (λ (e : FieldMap). Stored c.args.self.now c.args.i c.args.j e.images × IsBetween c.args.self.now.rows c.args.i c.args.j e)
+    (sym c.stored_map.ensures)
+    (subst (λ (L : Lattice). Stored L c.args.i c.args.j c.index-in-Some.result.now.map.images × IsBetween L.rows c.args.i c.args.j c.index-in-Some.result.now.map) c.self.view_is
     (table_stored t.fields.items t.maps.items t.places.items c.self.invariant c.args.i c.args.j li lj c.in-Some.place c.index-in-Some.result.now
-    (table_at t.fields.items t.maps.items t.places.items c.self.invariant c.args.i c.args.j li lj c.in-Some.place some) c.index-in-Some.ensures)
+    (table_at t.fields.items t.maps.items t.places.items c.self.invariant c.args.i c.args.j li lj c.in-Some.place some) c.index-in-Some.ensures))

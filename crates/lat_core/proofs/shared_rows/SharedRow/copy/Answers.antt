@@ -5,5 +5,5 @@ use Rattle.lat_core.proofs.shared_rows.SharedRow.copy.Goals as goal
 
 pub returns : goal.returns
 returns c =
-    (λ i. record { row = c.copy.ensures i; maps = maps_of (copied_entries (λ a. a.value) _ _ c.in_ok-clone.ensures.cases i) })
+    (λ i. record { row = c.in_ok-try_clone.ensures i; maps = maps_of (copied_entries (λ a. a.value) _ _ c.in_ok-clone.ensures.cases i) })
     ∙ c.self.view_is

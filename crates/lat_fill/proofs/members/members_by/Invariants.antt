@@ -1,5 +1,5 @@
 use Rattle.lat_fill.specs.PrivateListing.{AreListed}
-use Rattle.lat_fill.proofs.members.members.Given as goal
+use Rattle.lat_fill.proofs.members.members_by.Given as goal
 
 -- the members so far
 abbrev pub invariant-loop-number : goal.invariant-loop-number

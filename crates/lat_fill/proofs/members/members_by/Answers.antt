@@ -1,8 +1,8 @@
 use Rattle.std.proofs.Common.{◌≡◌, ◌<◌, ◌+◌, ap, sym, subst, length, arith}
 use Rattle.lat_fill.specs.PrivateListing.{AreListed}
 use Rattle.lat_fill.proofs.MemberLists.{list_past}
-use Rattle.lat_fill.proofs.members.members.Goals as goal
-use Rattle.lat_fill.proofs.members.members.Goals.{then-is_member+in_ok-list_member, else-is_member}
+use Rattle.lat_fill.proofs.members.members_by.Goals as goal
+use Rattle.lat_fill.proofs.members.members_by.Goals.{then-is_member+in_ok-list_member, else-is_member}
 
 pub loop-number-preserved : goal.loop-number-preserved
 loop-number-preserved c =

@@ -4,7 +4,7 @@ use Rattle.std.specs.Prelude.{IfSome}
 use Rattle.alg_model.specs.Maps.{degree_of, powers}
 use Rattle.alg_model.specs.Lattices.{field_at}
 use Rattle.lat_audit.proofs.ReadMaps.{map_read}
-use Rattle.lat_audit.proofs.maps.embedding.Goals as goal
+use Rattle.lat_audit.proofs.maps.by_root.Goals as goal
 
 pub returns : goal.returns
 returns c =
