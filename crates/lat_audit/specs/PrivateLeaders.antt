@@ -1,5 +1,5 @@
--- Compositions told by leaders: fields that have an isomorphism into each field that they lead. No public clause cites this
--- module.
+-- Compositions told by leaders: fields that have an isomorphism into each field that they lead.
+-- No public clause cites this module.
 --     IsIsomorphic L l i        l has a map into i, and the degree of i
 --     leader leaders i          the leader of field i
 --     IsLed L leaders i         the leader of i is isomorphic to i, and its own leader

@@ -4,16 +4,9 @@ use super::*;
 use std::alloc::Global;
 use std::test::Fail;
 
-// The verdict as the program would print it.
-fn shown(alloc: Global, text: &[u8]) -> Result<String, Fail> {
-    Ok(match audit(alloc, text) {
-        AuditVerdict::Good(_lattice) => format!(in alloc; "good")?,
-        AuditVerdict::BadText(n) => format!(in alloc; "bad text {n}")?,
-        AuditVerdict::BadField(i) => format!(in alloc; "bad field {i}")?,
-        AuditVerdict::BadMap(i, j) => format!(in alloc; "bad map {i} {j}")?,
-        AuditVerdict::BadRule(r, i, j, k) => format!(in alloc; "bad rule {r} {i} {j} {k}")?,
-        AuditVerdict::NoMemory => format!(in alloc; "no memory")?,
-    })
+// The line of the verdict.
+fn shown(alloc: Global, text: &[u8]) -> VerdictLine {
+    verdict_line(&audit(alloc, text))
 }
 
 #[test]
@@ -50,9 +43,9 @@ map 9 9 0
 map 10 10 0
 map 11 11 0,1
 "
-        )?
-        .as_str(),
-        "bad text 29"
+        )
+        .bytes(),
+        b"bad text 29\n".as_slice()
     );
     Ok(())
 }
@@ -91,9 +84,9 @@ map 10 10 0
 map 11 11 0,1
 end
 "
-        )?
-        .as_str(),
-        "bad text 28"
+        )
+        .bytes(),
+        b"bad text 28\n".as_slice()
     );
     Ok(())
 }
@@ -133,9 +126,9 @@ map 10 10 0
 map 11 11 1,1
 end
 "
-        )?
-        .as_str(),
-        "bad rule 2 11 11 11"
+        )
+        .bytes(),
+        b"bad rule 2 11 11 11\n".as_slice()
     );
     Ok(())
 }
@@ -175,9 +168,9 @@ map 10 10 0
 map 11 11 0,1
 end
 "
-        )?
-        .as_str(),
-        "bad text 17"
+        )
+        .bytes(),
+        b"bad text 17\n".as_slice()
     );
     Ok(())
 }
@@ -217,9 +210,9 @@ map 10 10 0
 map 11 11 1,0
 end
 "
-        )?
-        .as_str(),
-        "bad map 11 11"
+        )
+        .bytes(),
+        b"bad map 11 11\n".as_slice()
     );
     Ok(())
 }
@@ -267,9 +260,9 @@ map 12 13 0,0,0,0,0,1,0,0,0,0,0,0
 map 13 13 0,1,0,0,0,0,0,0,0,0,0,0
 end
 "
-        )?
-        .as_str(),
-        "bad rule 6 11 12 13"
+        )
+        .bytes(),
+        b"bad rule 6 11 12 13\n".as_slice()
     );
     Ok(())
 }
@@ -309,9 +302,9 @@ map 10 10 0
 map 11 11 0,1
 end
 "
-        )?
-        .as_str(),
-        "bad text 14"
+        )
+        .bytes(),
+        b"bad text 14\n".as_slice()
     );
     Ok(())
 }
@@ -350,9 +343,9 @@ map 10 10 0
 map 11 11 0,1
 end
 "
-        )?
-        .as_str(),
-        "bad rule 3 0 11 11"
+        )
+        .bytes(),
+        b"bad rule 3 0 11 11\n".as_slice()
     );
     Ok(())
 }
@@ -392,9 +385,9 @@ map 10 10 0
 map 11 11 0,1
 end
 "
-        )?
-        .as_str(),
-        "good"
+        )
+        .bytes(),
+        b"good\n".as_slice()
     );
     Ok(())
 }
@@ -434,9 +427,9 @@ map 10 10 0
 map 11 11 0,1
 end
 "
-        )?
-        .as_str(),
-        "bad field 11"
+        )
+        .bytes(),
+        b"bad field 11\n".as_slice()
     );
     Ok(())
 }
@@ -486,9 +479,9 @@ map 13 12 1,1,0,1
 map 13 13 0,1,0,0
 end
 "
-        )?
-        .as_str(),
-        "bad rule 5 11 12 13"
+        )
+        .bytes(),
+        b"bad rule 5 11 12 13\n".as_slice()
     );
     Ok(())
 }
@@ -538,9 +531,9 @@ map 13 12 1,0,0,1
 map 13 13 0,1,0,0
 end
 "
-        )?
-        .as_str(),
-        "good"
+        )
+        .bytes(),
+        b"good\n".as_slice()
     );
     Ok(())
 }
@@ -594,9 +587,9 @@ map 14 13 0,0,0,1,0,0,1,0,0,0,0,0
 map 14 14 0,1
 end
 "
-        )?
-        .as_str(),
-        "good"
+        )
+        .bytes(),
+        b"good\n".as_slice()
     );
     Ok(())
 }

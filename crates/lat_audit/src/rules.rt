@@ -256,7 +256,8 @@ fn without_composition_from(table: &Table, i: u32) -> Option<(u32, u32)>
     None
 }
 
-// The first fields for which a composition isn't stored. All are looked at where leaders don't tell that there are none.
+// The first fields for which a composition isn't stored. All are looked at where leaders don't tell
+// that there are none.
 fn without_composition(table: &Table) -> Option<(u32, u32, u32)>
     requires maps { HoldsMaps table.now }
     requires identities { (i : ℕ) → i < length table.now.rows → HasIdentity table.now i }

@@ -15,8 +15,8 @@ returns-in_default c =
     let rows = c.args.fields.now in
     let e = c.image-item.result in
     let none = subst (λ (r : Option FieldMap). MatchOption r (¬ IsGeneratorImage rows e.0.0 e.0.1 e.1)
-        (λ m. IsGeneratorImage rows e.0.0 e.0.1 e.1 × IsBetween rows e.0.0 e.0.1 m
-        × (m.images ≡ map_sending (field_at rows e.0.0) (field_at rows e.0.1) e.1)))
+    (λ m. IsGeneratorImage rows e.0.0 e.0.1 e.1 × IsBetween rows e.0.0 e.0.1 m
+    × (m.images ≡ map_sending (field_at rows e.0.0) (field_at rows e.0.1) e.1)))
     c.in_default.is c.in_ok-map.ensures in
     subst (λ (q : ℕ × ℕ). IsFirst pair_cmp (IsWrongImage (record { rows = rows; images = c.args.images.now })) q) (sym c.pair-from.ensures)
     (first_wrong rows c.args.images.now c.loop-image.image-index c.image-item.result c.loop-image-test.true c.image-item.is
@@ -27,8 +27,8 @@ loop-image-preserved c =
     let rows = c.args.fields.now in
     let e = c.image-item.result in
     let found = subst (λ (r : Option FieldMap). MatchOption r (¬ IsGeneratorImage rows e.0.0 e.0.1 e.1)
-        (λ m. IsGeneratorImage rows e.0.0 e.0.1 e.1 × IsBetween rows e.0.0 e.0.1 m
-        × (m.images ≡ map_sending (field_at rows e.0.0) (field_at rows e.0.1) e.1)))
+    (λ m. IsGeneratorImage rows e.0.0 e.0.1 e.1 × IsBetween rows e.0.0 e.0.1 m
+    × (m.images ≡ map_sending (field_at rows e.0.0) (field_at rows e.0.1) e.1)))
     c.in-Some.is c.in_ok-map.ensures in
     more_maps rows c.args.images.now c.loop-image.image-index c.image-item.result c.loop-image-test.true c.image-item.is
     c.loop-image.maps.items c.push.new.self.items (record { from = c.pair-from.result.0; into = c.pair-from.result.1; map = c.in-Some.map })
